@@ -1,0 +1,9 @@
+pub mod Choices
+pub mod Code
+pub mod Falls
+pub mod Fields
+pub mod Kinds
+pub mod Made
+pub mod Tree
+pub mod Unions
+pub mod View

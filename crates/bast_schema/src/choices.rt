@@ -1,0 +1,86 @@
+ghost use Rattle.std.specs.Prelude.{◌≡◌, ◌<◌, length, map, slice_get, Some};
+ghost use Rattle.std.specs.List.{position_from};
+ghost use Rattle.std.specs.Str.{bytes_eq};
+ghost use Rattle.bast_schema.specs.Choices.{choice_texts, choice_of_text};
+
+use crate::kind::EnumId;
+
+/// The texts of a set of choices.
+fn texts_of(set: EnumId) -> &'static [&'static str]
+    ensures texts { map (λ t. t.now) result.now ≡ choice_texts set }
+    ensures few { length (choice_texts set) < 256 }
+{
+    match set {
+        EnumId::DeclaredKind => &["var", "non-const lexical", "const lexical"],
+        EnumId::LexicalKind => &["let", "const"],
+        EnumId::ForKind => &["var", "let", "const"],
+        EnumId::UnaryOperator => &["+", "-", "~", "!", "typeof", "void", "delete"],
+        EnumId::UpdateOperator => &["++", "--"],
+        EnumId::BinaryOperator => &[
+            "||",
+            "&&",
+            "|",
+            "^",
+            "&",
+            "==",
+            "!=",
+            "===",
+            "!==",
+            "<",
+            ">",
+            "<=",
+            ">=",
+            "instanceof",
+            "in",
+            "<<",
+            ">>",
+            ">>>",
+            "+",
+            "-",
+            "*",
+            "/",
+            "%",
+        ],
+        EnumId::CompoundOperator => &[
+            "+=", "-=", "*=", "/=", "%=", "<<=", ">>=", ">>>=", "&=", "^=", "|=",
+        ],
+    }
+}
+
+/// How many choices a set has.
+pub fn choices_in(set: EnumId) -> usize
+    ensures is { result ≡ length (choice_texts set) }
+    ensures few { result < 256 }
+{
+    match set {
+        EnumId::DeclaredKind => 3,
+        EnumId::LexicalKind => 2,
+        EnumId::ForKind => 3,
+        EnumId::UnaryOperator => 7,
+        EnumId::UpdateOperator => 2,
+        EnumId::BinaryOperator => 23,
+        EnumId::CompoundOperator => 11,
+    }
+}
+
+/// The text of a choice.
+pub fn choice_text(set: EnumId, choice: u8) -> &'static str
+    requires { choice < length (choice_texts set) }
+    ensures { slice_get (choice_texts set) choice ≡ Some result.now }
+{
+    texts_of(set)[choice as usize]
+}
+
+/// The choice with a text.
+pub fn choice_of(set: EnumId, text: &str) -> Option<usize>
+    ensures { result ≡ choice_of_text set text.now }
+{
+    place_of(texts_of(set), text)
+}
+
+/// The place of a text in a list of texts.
+fn place_of(texts: &[&str], text: &str) -> Option<usize>
+    ensures { result ≡ position_from (λ t. bytes_eq t.now text.now) 0 texts.now }
+{
+    texts.iter().position(|other| *other == text)
+}

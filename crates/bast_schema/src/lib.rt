@@ -1,0 +1,16 @@
+//! The kinds of node with their fields, and well-typed trees of them.
+#![tactic(auto)]
+
+mod choices;
+mod fields;
+mod kind;
+mod names;
+mod node;
+mod unions;
+
+pub use choices::{choice_of, choice_text, choices_in};
+pub use fields::{field_name, fields_of, is_lazy};
+pub use kind::{EnumId, FieldType, Kind, Union};
+pub use names::{is_counted, kind_named, kind_numbered, name_of, number_of};
+pub use node::{Node, NodeFault, Value, Values};
+pub use unions::allows;
