@@ -1,2 +1,4 @@
+pub mod Distinct
+pub mod EachKind
 pub mod Lists
 pub mod Places

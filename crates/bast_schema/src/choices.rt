@@ -1,4 +1,4 @@
-ghost use Rattle.std.specs.Prelude.{◌≡◌, ◌<◌, length, map, slice_get, Some};
+ghost use Rattle.std.specs.Prelude.{◌≡◌, ◌<◌, length, map, slice_get, Some, IfSome};
 ghost use Rattle.std.specs.List.{position_from};
 ghost use Rattle.std.specs.Str.{bytes_eq};
 ghost use Rattle.bast_schema.specs.Choices.{choice_texts, choice_of_text};
@@ -72,15 +72,19 @@ pub fn choice_text(set: EnumId, choice: u8) -> &'static str
 }
 
 /// The choice with a text.
-pub fn choice_of(set: EnumId, text: &str) -> Option<usize>
+pub fn choice_of(set: EnumId, text: &str) -> Option<u8>
     ensures { result ≡ choice_of_text set text.now }
 {
-    place_of(texts_of(set), text)
+    match place_of(texts_of(set), text) {
+        Some(place) => Some(place as u8),
+        None => None,
+    }
 }
 
 /// The place of a text in a list of texts.
 fn place_of(texts: &[&str], text: &str) -> Option<usize>
-    ensures { result ≡ position_from (λ t. bytes_eq t.now text.now) 0 texts.now }
+    ensures is { result ≡ position_from (λ t. bytes_eq t.now text.now) 0 texts.now }
+    ensures within { IfSome result (λ n. n < length texts.now) }
 {
     texts.iter().position(|other| *other == text)
 }

@@ -6,6 +6,7 @@ mod fields;
 mod kind;
 mod names;
 mod node;
+mod table;
 mod unions;
 
 pub use choices::{choice_of, choice_text, choices_in};
@@ -13,4 +14,5 @@ pub use fields::{field_name, fields_of, is_lazy};
 pub use kind::{EnumId, FieldType, Kind, Union};
 pub use names::{is_counted, kind_named, kind_numbered, name_of, number_of};
 pub use node::{Node, NodeFault, Value, Values};
+pub use table::{Added, KindTable};
 pub use unions::allows;

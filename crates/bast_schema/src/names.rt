@@ -199,7 +199,8 @@ pub fn kind_numbered(number: u32) -> Option<Kind>
     kind_at(&KINDS, number as usize)
 }
 
-fn kind_at(list: &[Kind], place: usize) -> Option<Kind>
+/// The kind at a place of a list.
+pub(crate) fn kind_at(list: &[Kind], place: usize) -> Option<Kind>
     ensures { result ≡ slice_get list.now place }
 {
     list.get(place).copied()
