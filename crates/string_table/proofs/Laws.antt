@@ -11,7 +11,8 @@ use Rattle.std.specs.Cmp.Lexicographic.{options_equiv}
 use Rattle.std.specs.List.{position_from, AllByRecursion}
 use Rattle.std.specs.Option.{unwrap_or}
 use Rattle.std.specs.Str.{bytes_eq}
-use Rattle.string_table.specs.Entries.{is_same, place_in, added, AreDistinct}
+use Rattle.string_table.specs.Entries.{is_same, place_in, added, added_name, place_of, AreDistinct}
+use Rattle.string_table.specs.declared.entry.AddedName.TheVariants.{New, There}
 use Rattle.string_table.proofs.Search.{position-from, list_any-from_none}
 
 pub is_same-Decides : (a b : Option (List ℕ)) → Decides (is_same a b) (a ≡ b)
@@ -85,14 +86,32 @@ from_own : (entry : Option (List ℕ)) (n i : ℕ) (entries : List (Option (List
 from_own entry n i [] h e = absurd (none-some entry e)
 from_own entry n zero (x ∷ entries) h e =
     cond-true (is_same entry x) (Some n) (position_from (is_same entry) (n + 1) entries)
-      ((is_same-Decides entry x).1 (sym (ap (λ o. unwrap_or o entry) e))) ∙ ap Some (omega arith)
+    ((is_same-Decides entry x).1 (sym (ap (λ o. unwrap_or o entry) e))) ∙ ap Some (omega arith)
 from_own entry n (suc i) (x ∷ entries) h e =
     let apart : is_same x entry ≡ false = passes_at _ entries i entry (IsDistinct-head is_same x entries h) e in
     let later : n + 1 + i ≡ n + suc i = omega arith in
     cond-false (is_same entry x) (Some n) (position_from (is_same entry) (n + 1) entries) ((options_equiv nat_list_eq_equiv).symm entry x ∙ apart)
-      ∙ from_own entry (n + 1) i entries (IsDistinct-tail is_same x entries h) e ∙ ap Some later
+    ∙ from_own entry (n + 1) i entries (IsDistinct-tail is_same x entries h) e ∙ ap Some later
 
 pub place_in-own : (entries : List (Option (List ℕ))) (entry : Option (List ℕ)) (i : ℕ) → AreDistinct entries → slice_get entries i ≡ Some entry → place_in entries entry ≡ Some i
 place_in-own entries entry i h e =
     let first : 0 + i ≡ i = omega arith in
     position-from (is_same entry) entries ∙ from_own entry 0 i entries h e ∙ ap Some first
+
+-- what `add` answers is the place that the entry has then
+pub place_in-added : (entries : List (Option (List ℕ))) (entry : Option (List ℕ)) → place_in (added entries entry) entry ≡ Some (place_of (added_name entries entry))
+place_in-added entries entry = by (place_in entries entry) refl
+  where
+    by : (o : Option ℕ) → place_in entries entry ≡ o → place_in (added entries entry) entry ≡ Some (place_of (added_name entries entry))
+    by None e = rw e (place_in-push entries entry e)
+    by (Some i) e = rw e e
+
+-- a new entry has the next place, and its list one more
+pub added-new : (entries : List (Option (List ℕ))) (entry : Option (List ℕ)) → place_in entries entry ≡ None
+    → (added entries entry ≡ entries ++ entry ∷ []) × (added_name entries entry ≡ New (record { 0 = length entries }))
+added-new entries entry e = rw e (refl, refl)
+
+-- one that is there keeps its place, and the entries stay
+pub added-there : (entries : List (Option (List ℕ))) (entry : Option (List ℕ)) (i : ℕ) → place_in entries entry ≡ Some i
+    → (added entries entry ≡ entries) × (added_name entries entry ≡ There (record { 0 = i }))
+added-there entries entry i e = rw e (refl, refl)

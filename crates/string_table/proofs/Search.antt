@@ -16,8 +16,9 @@ module _ {X : Type 0} (p : X → Bool) where
   from_later m n [] le = refl
   from_later m n (x ∷ xs) le =
       elim (p x) as (λ b. cond b (Some (n + 1)) (position_from p (n + 1 + 1) xs) ≡ option_map (place_of_index (Some m)) (cond b (Some n) (position_from p (n + 1) xs))) [
-        true ↦ ap Some (sym (cond-false (ltb n m) n (n + 1) (le-ltb n m le)))
-      | false ↦ from_later m (n + 1) xs (omega arith) ]
+        | true ↦ ap Some (sym (cond-false (ltb n m) n (n + 1) (le-ltb n m le)))
+        | false ↦ from_later m (n + 1) xs (omega arith)
+      ]
 
   -- an item that does not pass moves the answer by one from its own place on
   pub from_insert : (y : X) (m n k : ℕ) (xs : List X) → p y ≡ false → k ≤ length xs → m ≡ n + k
@@ -29,8 +30,9 @@ module _ {X : Type 0} (p : X → Bool) where
       let le' : k ≤ length xs = omega arith in
       let e' : m ≡ n + 1 + k = omega arith in
       elim (p x) as (λ b. cond b (Some n) (position_from p (n + 1) (insert xs k y)) ≡ option_map (place_of_index (Some m)) (cond b (Some n) (position_from p (n + 1) xs))) [
-        true ↦ ap Some (sym (cond-true (ltb n m) n (n + 1) (lt-ltb n m (omega arith))))
-      | false ↦ from_insert y m (n + 1) k xs fails le' e' ]
+        | true ↦ ap Some (sym (cond-true (ltb n m) n (n + 1) (lt-ltb n m (omega arith))))
+        | false ↦ from_insert y m (n + 1) k xs fails le' e'
+      ]
 
   -- where the search finds nothing, no item passes
   none_passes : (n : ℕ) (xs : List X) → position_from p n xs ≡ None → list_any p xs ≡ false

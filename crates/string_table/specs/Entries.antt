@@ -32,3 +32,8 @@ added entries entry = if is_some (place_in entries entry) then entries else entr
 abbrev pub added_name : List (Option (List ℕ)) → Option (List ℕ) → AddedName
 added_name entries entry =
     option_map_or (λ place. There (record { 0 = place })) (place_in entries entry) (New (record { 0 = length entries }))
+
+-- the place that the answer gives
+abbrev pub place_of : AddedName → ℕ
+place_of (New name) = name.0
+place_of (There name) = name.0

@@ -8,5 +8,5 @@ pub returns-clause-pushed : goal.returns-clause-pushed
 returns-clause-pushed c =
     let e = c.in_ok-owned.ensures.ok in
     ap (map string_bytes) c.in_ok-insert.ensures.keys
-      ∙ texts-insert_key c.args.texts.now.keys c.in_ok-owned.owned (rw e c.requires)
-      ∙ ap (λ (t : List ℕ). texts_of c.args.texts.now ++ t ∷ []) e
+    ∙ texts-insert_key c.args.texts.now.keys c.in_ok-owned.owned (rw e c.requires)
+    ∙ ap (λ (t : List ℕ). texts_of c.args.texts.now ++ t ∷ []) e
