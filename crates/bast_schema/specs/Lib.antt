@@ -2,6 +2,7 @@ pub mod Choices
 pub mod Code
 pub mod Falls
 pub mod Fields
+pub mod Held
 pub mod KindTable
 pub mod Kinds
 pub mod Made

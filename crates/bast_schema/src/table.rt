@@ -84,6 +84,13 @@ impl KindTable {
         }
     }
 
+    /// The kinds, in order.
+    pub fn as_slice(&self) -> &[Kind]
+        ensures { result.now ≡ self.now }
+    {
+        self.kinds.as_slice()
+    }
+
     /// How many kinds there are.
     pub fn len(&self) -> u32
         ensures is { result ≡ length self.now }
