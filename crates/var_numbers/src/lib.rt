@@ -1,0 +1,15 @@
+//! How numbers are spelled in files: whole numbers in groups of seven bits, and the numbers of the language in eight bytes.
+#![tactic(auto)]
+
+mod laws;
+mod pattern;
+mod varnum;
+mod varnum_read;
+
+#[cfg(test)]
+mod tests;
+
+pub use laws::{pattern_is_injective, varnum_is_prefix_free};
+pub use pattern::{pattern_of, whole_of};
+pub use varnum::{put_varnum, varnum_len};
+pub use varnum_read::read_varnum;
