@@ -3,12 +3,11 @@ use Rattle.std.proofs.Common.{◌≡◌, ◌↔◌, ◌⊎◌, Bool, true, false
 use Rattle.std.proofs.lemmas.List.{get_or-take, get_or-drop, drop-take, drop-drop, length-take-le}
 use Rattle.std.proofs.lemmas.Bool.{cases_lt, iff_false}
 use Rattle.bast_base.specs.declared.errors.Why.{Why}
-use Rattle.bast_base.specs.declared.errors.FormatFault.{FormatFault}
 use Rattle.var_numbers.specs.ReadClauses.{Spells}
 use Rattle.var_numbers.specs.Varnum.{varnum}
-use Rattle.var_numbers.specs.VarnumRead.{number_at, moved, number_in}
+use Rattle.var_numbers.specs.VarnumRead.{number_at, number_in}
 use Rattle.var_numbers.proofs.ReadLemmas.{number_in-varnum}
-use Rattle.var_numbers.proofs.ReadingLemmas.{Reading, Last, Fits, reading-fits, spelled-here}
+use Rattle.var_numbers.proofs.ReadingLemmas.{Reading, Last, reading-fits, spelled-here}
 
 pub range-length : (bytes : List ℕ) (at end : ℕ) → at ≤ end → end ≤ length bytes → length (slice_range bytes at end) ≡ end - at
 range-length bytes at end order within = simp (length-take, length-drop) (omega arith)

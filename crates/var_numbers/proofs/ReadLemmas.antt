@@ -1,13 +1,12 @@
 -- What is read of a list of bytes.
-use Rattle.std.proofs.Common.{◌≡◌, ℕ, zero, suc, ◌+◌, ◌-◌, ◌*◌, ◌/◌, ◌%◌, ◌^◌, ◌<◌, ◌≤◌, ◌⊎◌, List, [], ◌∷◌, ◌++◌, length, take, drop, get_or, slice_index, refl, sym, ap, ◌∙◌, arith, inl, inr, Ok, false, length-append, Err}
-use Rattle.std.proofs.Math.Nat.{pow-suc, pow-le-pow_right, mul_assoc, mul_comm}
+use Rattle.std.proofs.Common.{◌≡◌, ℕ, suc, ◌+◌, ◌*◌, ◌/◌, ◌%◌, ◌^◌, ◌<◌, ◌≤◌, ◌⊎◌, List, ◌∷◌, ◌++◌, length, take, drop, slice_index, refl, sym, ap, ◌∙◌, arith, inl, inr, Ok, false, length-append, Err}
+use Rattle.std.proofs.Math.Nat.{pow-suc, pow-le-pow_right, mul_assoc}
 use Rattle.std.proofs.lemmas.Bool.{lt-ltb, le-ltb, cases_lt, eq-eqb, ne_eqb, and_from, and_left, and_right, or_left, or_right, or_from}
 use Rattle.std.proofs.lemmas.List.{take_at, drop_at}
-use Rattle.bast_base.specs.declared.errors.FormatFault.{FormatFault}
 use Rattle.bast_base.specs.declared.errors.Why.TheVariants.{Ended, Overlong, TooBig}
 use Rattle.var_numbers.specs.Varnum.{varnum}
-use Rattle.var_numbers.specs.VarnumRead.{is_last, last_place, groups_sum, is_ended, is_too_big, is_overlong, number_in}
-use Rattle.var_numbers.proofs.VarnumLemmas.{varnum-last, varnum-more, varnum-nonempty, by_groups}
+use Rattle.var_numbers.specs.VarnumRead.{last_place, groups_sum, is_ended, is_too_big, is_overlong, number_in}
+use Rattle.var_numbers.proofs.VarnumLemmas.{varnum-last, varnum-more, by_groups}
 
 pub last_place-even : (byte : ℕ) (more : List ℕ) → byte % 2 ≡ 0 → last_place (byte ∷ more) ≡ 0
 last_place-even byte more even = rw even refl
@@ -18,10 +17,10 @@ last_place-odd byte more odd = rw odd (omega arith)
 pub groups_sum-varnum : (n : ℕ) → groups_sum (varnum n) ≡ n
 groups_sum-varnum n =
     by_groups
-      (λ m. groups_sum (varnum m) ≡ m)
-      (λ m p. rw (varnum-last m p) (omega arith))
-      (λ m p h. rw (varnum-more m p) (omega arith))
-      n
+    (λ m. groups_sum (varnum m) ≡ m)
+    (λ m p. rw (varnum-last m p) (omega arith))
+    (λ m p h. rw (varnum-more m p) (omega arith))
+    n
 
 -- what bytes that begin with the spelling of n show
 pub record Front (n : ℕ) (bytes : List ℕ) : Type 0 where
@@ -64,10 +63,10 @@ front-more n rest p f =
 pub front_of : (n : ℕ) (more : List ℕ) → Front n (varnum n ++ more)
 front_of n more =
     by_groups
-      (λ m. Front m (varnum m ++ more))
-      (λ m p. rw (varnum-last m p) (front-last m more p))
-      (λ m p f. rw (varnum-more m p) (front-more m (varnum (m / 128) ++ more) p f))
-      n
+    (λ m. Front m (varnum m ++ more))
+    (λ m p. rw (varnum-last m p) (front-last m more p))
+    (λ m p f. rw (varnum-more m p) (front-more m (varnum (m / 128) ++ more) p f))
+    n
 
 -- what bytes that begin with a number show
 pub record IsSpelled (bytes : List ℕ) : Type 0 where
@@ -127,9 +126,9 @@ spelled-from_front n bytes fits long f =
       within = omega (arith, f.place);
       few = few;
       small = λ e.
-        let even = rw e at f.even in
-        let small = rw e at f.small in
-        omega arith;
+          let even = rw e at f.even in
+          let small = rw e at f.small in
+          omega arith;
       used = λ p. f.used (f.later p);
     }
 
@@ -146,9 +145,9 @@ number_in-varnum n more fits =
 pub varnum-prefix_free : (m n : ℕ) (x y : List ℕ) → varnum m ++ x ≡ varnum n ++ y → (m ≡ n) × (x ≡ y)
 varnum-prefix_free m n x y e =
     let long : length (varnum m) ≡ length (varnum n) =
-      sym (front_of m x).place ∙ ap (λ bytes. last_place bytes + 1) e ∙ (front_of n y).place in
+    sym (front_of m x).place ∙ ap (λ bytes. last_place bytes + 1) e ∙ (front_of n y).place in
     let front : varnum m ≡ varnum n =
-      sym (take_at (varnum m) x (length (varnum m)) refl) ∙ ap (λ bytes. take (length (varnum m)) bytes) e ∙ take_at (varnum n) y (length (varnum m)) (sym long) in
+    sym (take_at (varnum m) x (length (varnum m)) refl) ∙ ap (λ bytes. take (length (varnum m)) bytes) e ∙ take_at (varnum n) y (length (varnum m)) (sym long) in
     let rest : x ≡ y =
-      sym (drop_at (varnum m) x (length (varnum m)) refl) ∙ ap (λ bytes. drop (length (varnum m)) bytes) e ∙ drop_at (varnum n) y (length (varnum m)) (sym long) in
+    sym (drop_at (varnum m) x (length (varnum m)) refl) ∙ ap (λ bytes. drop (length (varnum m)) bytes) e ∙ drop_at (varnum n) y (length (varnum m)) (sym long) in
     (sym (groups_sum-varnum m) ∙ ap groups_sum front ∙ groups_sum-varnum n, rest)

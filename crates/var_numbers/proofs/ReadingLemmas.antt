@@ -1,10 +1,10 @@
 -- What a reader has behind it after so many bytes that each go on.
-use Rattle.std.proofs.Common.{◌≡◌, ℕ, zero, suc, ◌+◌, ◌-◌, ◌*◌, ◌/◌, ◌%◌, ◌^◌, ◌<◌, ◌≤◌, ◌⊎◌, List, [], ◌∷◌, ◌++◌, length, take, drop, get_or, slice_index, slice_range, refl, sym, ap, subst, ◌∙◌, arith, inl, inr, Ok, Err, add-one}
+use Rattle.std.proofs.Common.{◌≡◌, ℕ, ◌+◌, ◌*◌, ◌/◌, ◌%◌, ◌^◌, ◌<◌, ◌≤◌, ◌⊎◌, List, length, take, slice_index, refl, sym, ap, subst, ◌∙◌, arith, inl, inr, Ok, Err, add-one}
 use Rattle.std.specs.List.{All}
 use Rattle.std.proofs.Math.Nat.{pow-suc, pow-le-pow_right, mul-le-mul_right}
 use Rattle.std.proofs.lemmas.Bool.{cases_lt, eqb-true, eqb-false}
 use Rattle.std.proofs.lemmas.Nat.{mul-le}
-use Rattle.std.proofs.lemmas.List.{take_more, length-take-le, get_or-take, get_or-drop}
+use Rattle.std.proofs.lemmas.List.{take_more, length-take-le}
 use Rattle.std.proofs.lemmas.List.Sums.{passes_at_first, fails_before_first, prefix_len-le-length}
 use Rattle.std.proofs.lemmas.List.Elements.{All-nil, All-more}
 use Rattle.bast_base.specs.declared.errors.Why.TheVariants.{Ended, Overlong, TooBig}
@@ -103,15 +103,15 @@ pub too_big-here : (bytes : List ℕ) (k number scale byte : ℕ) → Reading by
 too_big-here bytes k number scale byte r fifth within is wrong =
     let is_fifth : slice_index bytes k ≡ slice_index bytes 4 = ap (slice_index bytes) fifth in
     let why : (4 < last_place bytes) ⊎ ((last_place bytes ≡ 4) × (0x1E < slice_index bytes 4)) =
-      elim (cases_lt (byte % 2) 1) [
-        | inl even ↦
-            let large : 0x1E < byte = elim wrong [ inl odd ↦ omega arith | inr large ↦ large ] in
-            let here : last_place bytes ≡ k = ends_here bytes k r.on (rw (← is) (omega arith)) in
-            inr (omega arith, omega arith)
-        | inr odd ↦
-            let past : k + 1 ≤ last_place bytes = on_past bytes k r.on within (rw (← is) (omega arith)) in
-            inl (omega arith)
-      ] in
+    elim (cases_lt (byte % 2) 1) [
+      | inl even ↦
+          let large : 0x1E < byte = elim wrong [ inl odd ↦ omega arith | inr large ↦ large ] in
+          let here : last_place bytes ≡ k = ends_here bytes k r.on (rw (← is) (omega arith)) in
+          inr (omega arith, omega arith)
+      | inr odd ↦
+          let past : k + 1 ≤ last_place bytes = on_past bytes k r.on within (rw (← is) (omega arith)) in
+          inl (omega arith)
+    ] in
     rw (answer-too_big bytes (omega arith) why, fifth) refl
 
 pub overlong-here : (bytes : List ℕ) (k number scale : ℕ) → Reading bytes k number scale → k < length bytes → 0 < k → slice_index bytes k ≡ 0 → number_in bytes ≡ Err (record { at = k; why = Overlong })
@@ -134,9 +134,9 @@ is_spelled bytes k number scale byte r within is here last =
       within = omega arith;
       few = omega (arith, r.few);
       small = λ e.
-        let fourth : k ≡ 4 = omega arith in
-        let same : slice_index bytes k ≡ slice_index bytes 4 = ap (slice_index bytes) fourth in
-        omega (arith, last.small fourth);
+          let fourth : k ≡ 4 = omega arith in
+          let same : slice_index bytes k ≡ slice_index bytes 4 = ap (slice_index bytes) fourth in
+          omega (arith, last.small fourth);
       used = λ p. omega (arith, last.used (omega arith));
     }
 
@@ -155,7 +155,7 @@ spelled-here bytes k number scale byte r within is last =
     let small : All (λ b. b < 256) (take (k + 1) bytes) = All-more (λ b. b < 256) bytes k 0 within r.small fits in
     let there : take (last_place bytes + 1) bytes ≡ take (k + 1) bytes = ap (λ (x : ℕ). take (x + 1) bytes) here in
     let spelled : varnum (groups_sum (take (last_place bytes + 1) bytes)) ≡ take (last_place bytes + 1) bytes =
-      varnum-groups_sum bytes s.within s.used (subst (λ (xs : List ℕ). All (λ b. b < 256) xs) (sym there) small) in
+    varnum-groups_sum bytes s.within s.used (subst (λ (xs : List ℕ). All (λ b. b < 256) xs) (sym there) small) in
     ap varnum whole ∙ rw there at spelled
 
 -- before the fifth byte there is room for one more group

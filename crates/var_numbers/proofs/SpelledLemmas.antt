@@ -1,19 +1,18 @@
 -- That what is read of bytes is spelled by them.
-use Rattle.std.proofs.Common.{◌≡◌, ℕ, zero, suc, ◌+◌, ◌-◌, ◌*◌, ◌/◌, ◌%◌, ◌^◌, ◌<◌, ◌≤◌, ◌⊎◌, List, [], ◌∷◌, ◌++◌, length, take, drop, get_or, slice_index, refl, sym, ap, ◌∙◌, arith, inl, inr, Ok, Err, Result, length-append}
+use Rattle.std.proofs.Common.{◌≡◌, ℕ, suc, ◌+◌, ◌*◌, ◌/◌, ◌%◌, ◌^◌, ◌<◌, List, [], ◌∷◌, ◌++◌, length, take, slice_index, refl, ap, ◌∙◌, arith, inl, inr}
 use Rattle.std.specs.List.{All}
-use Rattle.std.proofs.Math.Nat.{pow-suc, pow-le-pow_right, mul_assoc, mul_comm, mul-le-mul_right}
+use Rattle.std.proofs.Math.Nat.{pow-suc, mul_assoc}
 use Rattle.std.proofs.lemmas.Bool.{cases_lt}
-use Rattle.std.proofs.lemmas.List.{take_more}
-use Rattle.std.proofs.lemmas.List.Elements.{All-head, All-tail, All-nil}
+use Rattle.std.proofs.lemmas.List.Elements.{All-head, All-tail}
 use Rattle.var_numbers.specs.Varnum.{varnum}
-use Rattle.var_numbers.specs.VarnumRead.{is_last, last_place, groups_sum, number_in}
+use Rattle.var_numbers.specs.VarnumRead.{last_place, groups_sum}
 use Rattle.var_numbers.proofs.VarnumLemmas.{varnum-last, varnum-more}
-use Rattle.var_numbers.proofs.ReadLemmas.{last_place-even, last_place-odd, IsSpelled}
+use Rattle.var_numbers.proofs.ReadLemmas.{last_place-even, last_place-odd}
 
 -- bytes that end in one that is used make a number above 0
 pub sum_pos : (bytes : List ℕ) → last_place bytes < length bytes → 0 < slice_index bytes (last_place bytes) → 0 < groups_sum (take (last_place bytes + 1) bytes)
 sum_pos [] within used = absurd (omega arith)
-sum_pos (byte ∷ more) within used = 
+sum_pos (byte ∷ more) within used =
     elim (cases_lt (byte % 2) 1) [
       | inl even ↦
           let here : last_place (byte ∷ more) ≡ 0 = last_place-even byte more (omega arith) in

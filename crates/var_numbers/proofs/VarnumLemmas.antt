@@ -42,19 +42,19 @@ by_groups P base step n = by_groups_within P base step n n (omega arith)
 pub varnum-bytes : (n : ℕ) → All (λ byte. byte < 256) (varnum n)
 varnum-bytes n =
     by_groups
-      (λ m. All (λ byte. byte < 256) (varnum m))
-      (λ m p. rw (varnum-last m p) (All-cons (λ byte. byte < 256) (2 * m) [] (omega arith) (All-nil (λ byte. byte < 256))))
-      (λ m p h. rw (varnum-more m p) (All-cons (λ byte. byte < 256) (2 * (m % 128) + 1) (varnum (m / 128)) (omega arith) h))
-      n
+    (λ m. All (λ byte. byte < 256) (varnum m))
+    (λ m p. rw (varnum-last m p) (All-cons (λ byte. byte < 256) (2 * m) [] (omega arith) (All-nil (λ byte. byte < 256))))
+    (λ m p h. rw (varnum-more m p) (All-cons (λ byte. byte < 256) (2 * (m % 128) + 1) (varnum (m / 128)) (omega arith) h))
+    n
 
 -- no spelling is empty
 pub varnum-nonempty : (n : ℕ) → 1 ≤ length (varnum n)
 varnum-nonempty n =
     by_groups
-      (λ m. 1 ≤ length (varnum m))
-      (λ m p. rw (varnum-last m p) (omega arith))
-      (λ m p h. rw (varnum-more m p) (omega arith))
-      n
+    (λ m. 1 ≤ length (varnum m))
+    (λ m p. rw (varnum-last m p) (omega arith))
+    (λ m p h. rw (varnum-more m p) (omega arith))
+    n
 
 -- a number of so many groups of seven bits has a byte for each at most
 pub varnum-length_le : (groups n : ℕ) → n < 128 ^ suc groups → length (varnum n) ≤ suc groups

@@ -3,11 +3,9 @@ ghost use Rattle.var_numbers.specs.Laws.{IsInjective, IsPrefixFree};
 /// A number has one spelling, and no spelling is a front of another. It does nothing: its clause is the law.
 pub fn varnum_is_prefix_free()
     ensures { IsPrefixFree }
-{
-}
+{}
 
 /// Whole numbers below 2^53 with one pattern are one number. It does nothing: its clause is the law.
 pub fn pattern_is_injective()
     ensures { IsInjective }
-{
-}
+{}

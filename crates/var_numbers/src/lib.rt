@@ -3,11 +3,10 @@
 
 mod laws;
 mod pattern;
-mod varnum;
-mod varnum_read;
-
 #[cfg(test)]
 mod tests;
+mod varnum;
+mod varnum_read;
 
 pub use laws::{pattern_is_injective, varnum_is_prefix_free};
 pub use pattern::{pattern_of, whole_of};

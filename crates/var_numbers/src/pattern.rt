@@ -22,7 +22,11 @@ pub fn whole_of(bits: u64) -> Option<u64>
 {
     let whole = nearest(bits);
     // A fraction or a sign would be lost: then the number has another pattern.
-    if pattern_of(whole) == bits { Some(whole) } else { None }
+    if pattern_of(whole) == bits {
+        Some(whole)
+    } else {
+        None
+    }
 }
 
 // The only whole number below 2^53 that may have the pattern.

@@ -44,7 +44,12 @@ fn patterns_are_of_whole_numbers(rt: HostRuntime) {
     assert_eq!(rt; pattern_of(9007199254740991), 0x433FFFFFFFFFFFFF);
     assert_eq!(rt; whole_of(0), Some(0));
     assert_eq!(rt; whole_of(0x433FFFFFFFFFFFFF), Some(9007199254740991));
-    for none in [0x3FF8000000000000, 0x8000000000000000, 0x3FE0000000000000, 0x4340000000000000] {
+    for none in [
+        0x3FF8000000000000,
+        0x8000000000000000,
+        0x3FE0000000000000,
+        0x4340000000000000,
+    ] {
         assert_eq!(rt; whole_of(none), None);
     }
 }

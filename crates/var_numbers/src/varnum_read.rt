@@ -37,11 +37,17 @@ pub fn read_varnum<L>(
     'groups: while place < end {
         let byte = tape.byte(place, steps);
         if is_beyond(place - at, byte) {
-            return Err(FormatFault { at: place, why: Why::TooBig });
+            return Err(FormatFault {
+                at: place,
+                why: Why::TooBig,
+            });
         }
         if byte % 2 == 0 {
             if byte == 0 && place > at {
-                return Err(FormatFault { at: place, why: Why::Overlong });
+                return Err(FormatFault {
+                    at: place,
+                    why: Why::Overlong,
+                });
             }
             return Ok((number + u32::from(byte / 2) * scale, place + 1));
         }
@@ -49,7 +55,10 @@ pub fn read_varnum<L>(
         scale *= 128;
         place += 1;
     }
-    Err(FormatFault { at: place, why: Why::Ended })
+    Err(FormatFault {
+        at: place,
+        why: Why::Ended,
+    })
 }
 
 // Whether the byte at this place of a spelling goes past 32 bits: the fifth may neither go on nor have a fifth bit.

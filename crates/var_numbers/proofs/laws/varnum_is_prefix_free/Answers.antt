@@ -1,5 +1,4 @@
 use Rattle.var_numbers.proofs.ReadLemmas.{varnum-prefix_free}
-use Rattle.var_numbers.proofs.RangeLemmas.{spells-here}
 use Rattle.var_numbers.proofs.laws.varnum_is_prefix_free.Goals as goal
 
 pub returns : goal.returns

@@ -1,4 +1,4 @@
-use Rattle.std.proofs.Common.{◌≡◌, ◌-◌, ◌+◌, ◌*◌, ◌/◌, ◌<◌, ◌≤◌, ◌∙◌, length, slice_index, slice_range, sym, arith, inl, inr, ◌%◌, ◌⊎◌}
+use Rattle.std.proofs.Common.{◌≡◌, ◌-◌, ◌+◌, ◌<◌, ◌∙◌, length, slice_index, slice_range, sym, arith, inl, inr, ◌%◌}
 use Rattle.std.proofs.lemmas.Bool.{cases_lt}
 use Rattle.bast_base.specs.declared.errors.Why.TheVariants.{Ended, Overlong, TooBig}
 use Rattle.var_numbers.proofs.ReadingLemmas.{Reading, Last, Fits, reading-fits, reading-more, scale_early, ended-here, too_big-here, overlong-here, number-here}
@@ -14,7 +14,7 @@ returns-then-is_beyond-clause-exact g c =
     let is : c.byte-byte.result ≡ slice_index range k = c.byte-byte.ensures.value ∙ sym (range-byte c.args.tape.now c.args.at c.groups.place c.args.end (omega arith) (omega arith)) in
     let why = c.is_beyond.ensures.0 c.if-is_beyond.true in
     fault-there range c.args.at c.groups.place TooBig (omega arith)
-      (too_big-here range k c.groups.number c.groups.scale c.byte-byte.result c.groups.invariant.0 why.0 (omega arith) is why.1)
+    (too_big-here range k c.groups.number c.groups.scale c.byte-byte.result c.groups.invariant.0 why.0 (omega arith) is why.1)
 
 pub returns-then-is_beyond-clause-only : goal.returns-then-is_beyond-clause-only
 returns-then-is_beyond-clause-only g c n more fits is =
@@ -27,7 +27,7 @@ returns-then-place-at-clause-exact g c =
     let long : length range ≡ c.args.end - c.args.at = range-length c.args.tape.now c.args.at c.args.end c.requires.order c.requires.within in
     let is : c.byte-byte.result ≡ slice_index range k = c.byte-byte.ensures.value ∙ sym (range-byte c.args.tape.now c.args.at c.groups.place c.args.end (omega arith) (omega arith)) in
     fault-there range c.args.at c.groups.place Overlong (omega arith)
-      (overlong-here range k c.groups.number c.groups.scale c.groups.invariant.0 (omega arith) (omega arith) (omega arith))
+    (overlong-here range k c.groups.number c.groups.scale c.groups.invariant.0 (omega arith) (omega arith) (omega arith))
 
 pub returns-then-place-at-clause-only : goal.returns-then-place-at-clause-only
 returns-then-place-at-clause-only g c n more fits is =
@@ -64,7 +64,7 @@ returns-then-byte-eq0-clause-exact g c =
     let long : length range ≡ c.args.end - c.args.at = range-length c.args.tape.now c.args.at c.args.end c.requires.order c.requires.within in
     let is : c.byte-byte.result ≡ slice_index range k = c.byte-byte.ensures.value ∙ sym (range-byte c.args.tape.now c.args.at c.groups.place c.args.end (omega arith) (omega arith)) in
     rw c.from.ensures (number-there range c.args.at c.groups.place _ (omega arith)
-      (number-here range k c.groups.number c.groups.scale c.byte-byte.result c.groups.invariant.0 (omega arith) is (last-byte g c)))
+    (number-here range k c.groups.number c.groups.scale c.byte-byte.result c.groups.invariant.0 (omega arith) is (last-byte g c)))
 
 pub returns-then-byte-eq0-clause-spelled : goal.returns-then-byte-eq0-clause-spelled
 returns-then-byte-eq0-clause-spelled g c =
@@ -102,8 +102,7 @@ groups-preserved g c =
     let is : c.byte-byte.result ≡ slice_index range k = c.byte-byte.ensures.value ∙ sym (range-byte c.args.tape.now c.args.at c.groups.place c.args.end (omega arith) (omega arith)) in
     let next : c.groups.place + 1 - c.args.at ≡ k + 1 = omega arith in
     let early : k < 4 = elim (cases_lt k 4) [ inl p ↦ p | inr p ↦ absurd (not_fifth g c (omega (arith, c.groups.invariant.0.few))) ] in
-    let odd : c.byte-byte.result % 2 ≡ 1 = elim (cases_lt 0 (c.byte-byte.result % 2)) [ inl p ↦ omega arith | inr p ↦ absurd (c.if-byte-eq0.false (omega arith)) ] in
-    (
+    let odd : c.byte-byte.result % 2 ≡ 1 = elim (cases_lt 0 (c.byte-byte.result % 2)) [ inl p ↦ omega arith | inr p ↦ absurd (c.if-byte-eq0.false (omega arith)) ] in (
       rw (next, c.from-in-groups.ensures) (reading-more range k c.groups.number c.groups.scale c.byte-byte.result c.groups.invariant.0 (omega arith) is (omega arith) odd early),
       omega arith,
       omega arith,
@@ -116,7 +115,7 @@ returns-clause-exact g c =
     let range = slice_range c.args.tape.now c.args.at c.args.end in
     let long : length range ≡ c.args.end - c.args.at = range-length c.args.tape.now c.args.at c.args.end c.requires.order c.requires.within in
     fault-there range c.args.at c.groups.place Ended (omega arith)
-      (ended-here range (c.groups.place - c.args.at) c.groups.number c.groups.scale c.groups.invariant.0 (omega arith))
+    (ended-here range (c.groups.place - c.args.at) c.groups.number c.groups.scale c.groups.invariant.0 (omega arith))
 
 pub returns-clause-only : goal.returns-clause-only
 returns-clause-only g c n more fits is =
