@@ -1,3 +1,4 @@
+pub mod InverseLemmas
 pub mod PatternLemmas
 pub mod RangeLemmas
 pub mod ReadLemmas

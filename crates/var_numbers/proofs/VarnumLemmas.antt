@@ -70,3 +70,5 @@ varnum-length_le (suc groups) n p =
 -- a number of 32 bits has five bytes at most
 pub varnum-short : (n : ℕ) → n < 2 ^ 32 → length (varnum n) ≤ 5
 varnum-short n p = varnum-length_le 4 n (omega arith)
+
+pub ruleset spelling_lengths = (varnum-nonempty, varnum-short)

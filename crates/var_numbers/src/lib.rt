@@ -8,7 +8,9 @@ mod tests;
 mod varnum;
 mod varnum_read;
 
-pub use laws::{pattern_is_injective, varnum_is_prefix_free};
+pub use laws::{
+    only_varnum_is_read, pattern_is_injective, varnum_is_prefix_free, varnum_is_read_back,
+};
 pub use pattern::{pattern_of, whole_of};
 pub use varnum::{put_varnum, varnum_len};
 pub use varnum_read::read_varnum;

@@ -1,4 +1,4 @@
-ghost use Rattle.std.specs.Prelude.{◌≡◌, ◌++◌, length, OnOk, OnErr};
+ghost use Rattle.std.specs.Prelude.{◌≡◌, ◌≤◌, ◌++◌, length, OnOk, OnErr};
 ghost use Rattle.var_numbers.specs.Varnum.{varnum};
 
 use bast_base::Memory;
@@ -21,10 +21,12 @@ pub fn put_varnum(into: &mut Vec<u8>, number: u32) -> Result<(), Memory>
     Ok(())
 }
 
-/// How many bytes the spelling of a number has, from one to five.
-#[tactic(auto, using(crate::proofs::VarnumLemmas::spellings))]
+/// How many bytes the spelling of a number has.
+#[tactic(auto, using(crate::proofs::VarnumLemmas::spellings, crate::proofs::VarnumLemmas::spelling_lengths))]
 pub fn varnum_len(number: u32) -> u32
-    ensures { result ≡ length (varnum number) }
+    ensures exact { result ≡ length (varnum number) }
+    ensures some { 1 ≤ result }
+    ensures few { result ≤ 5 }
 {
     let mut len = 1;
     let mut rest = number;
