@@ -437,7 +437,7 @@ pub fn fields_of(kind: Kind) -> &'static [FieldType]
 }
 
 /// The names of a kind's fields.
-fn field_names_of(kind: Kind) -> &'static [&'static str]
+pub(crate) fn field_names_of(kind: Kind) -> &'static [&'static str]
     ensures { map (λ t. t.now) result.now ≡ field_names kind }
 {
     match kind {

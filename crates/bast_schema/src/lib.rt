@@ -16,3 +16,6 @@ pub use names::{is_counted, kind_named, kind_numbered, name_of, number_of};
 pub use node::{Node, NodeFault, Value, Values};
 pub use table::{Added, KindTable};
 pub use unions::allows;
+
+#[cfg(test)]
+mod tests;
