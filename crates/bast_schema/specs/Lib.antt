@@ -1,5 +1,6 @@
 pub mod Choices
 pub mod Code
+pub mod Counts
 pub mod Falls
 pub mod Fields
 pub mod KindTable
