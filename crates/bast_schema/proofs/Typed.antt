@@ -1,5 +1,5 @@
 -- What a tree that is well typed says of its values.
-use Rattle.std.proofs.Common.{ℕ, List, [], ◌∷◌, ◌≡◌, ◌<◌, ◌≤◌, ◌+◌, Bool, true, false, not, refl, ap, sym, ◌∙◌, Option, None, Some, Result, Ok, Err, cond, ◌&&◌, ◌||◌, zero, suc, arith, drop, length, nat_lt, if◌then◌else◌}
+use Rattle.std.proofs.Common.{ℕ, List, [], ◌∷◌, ◌≡◌, ◌<◌, ◌≤◌, ◌+◌, Bool, true, false, refl, ap, sym, ◌∙◌, Option, None, Some, Result, Ok, Err, cond, ◌&&◌, ◌||◌, zero, suc, arith, drop, length, nat_lt, if◌then◌else◌}
 use Rattle.std.specs.List.{slice_get}
 use Rattle.std.proofs.lemmas.Bool.Decides.{nat_tests}
 use Rattle.bast_schema.specs.declared.kind.Kind.{Kind}
@@ -93,12 +93,3 @@ pub made_where_fit : (k : Kind) (ds : Data) → fit (fields k) ds ≡ true → d
 made_where_fit k ds h less =
     ap (λ o. node_or o (branch k ds)) (none_wrong_where_fit 0 (fields k) ds h)
     ∙ ap (λ b. if b then Err TooDeep else Ok (branch k ds)) (within_limit (depth (branch k ds)) less)
-
--- the rule for a place: it is wrong where a value is missing, one too many or not of its type
-abbrev pub wrong_pair : Option FieldType → Option Datum → Bool
-wrong_pair None None = false
-wrong_pair (Some t) (Some d) = not (fits t d)
-wrong_pair _ _ = true
-
-abbrev pub wrong_at : List FieldType → Data → ℕ → Bool
-wrong_at ts ds n = wrong_pair (slice_get ts n) (value_at ds n)

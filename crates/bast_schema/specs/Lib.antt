@@ -9,3 +9,4 @@ pub mod Made
 pub mod Tree
 pub mod Unions
 pub mod View
+pub mod Wrong
