@@ -6,6 +6,7 @@ use Rattle.std.proofs.lemmas.Map.Steps.{length-le_from_distinct_below}
 use Rattle.bast_schema.specs.declared.kind.Kind.{Kind}
 use Rattle.bast_schema.specs.Kinds.{number, same_kind}
 use Rattle.bast_schema.specs.KindTable.{place_of, with_kind, joined_at}
+use Rattle.bast_schema.proofs.Places.{position_passes}
 use Rattle.bast_schema.proofs.EachKind.{number_less, same_kind_true, same_kind_self}
 
 apart_numbers : (j : Kind) (ks : List Kind) → AllByRecursion (λ y. same_kind j y ≡ false) ks → AllByRecursion (λ n. eqb (number j) n ≡ false) (map number ks)
@@ -67,27 +68,12 @@ pub distinct_none : IsDistinct same_kind []
 unfolding IsDistinct
 distinct_none = tt
 
-from_after : (i : ℕ) (ks : List Kind) (k : Kind) (n : ℕ) → position_from (λ j. same_kind j k) i ks ≡ Some n → i ≤ n
-from_after i [] k n h = cc
-from_after i (j ∷ ks) k n h = after_first (same_kind j k) h (λ e. let r : i + 1 ≤ n = from_after (i + 1) ks k n e in omega arith)
-  where
-    after_first : (b : Bool) → cond b (Some i) (position_from (λ j. same_kind j k) (i + 1) ks) ≡ Some n → (position_from (λ j. same_kind j k) (i + 1) ks ≡ Some n → i ≤ n) → i ≤ n
-    after_first true e rest = let same : i ≡ n = cc in omega arith
-    after_first false e rest = rest e
-
-place_after : (i m : ℕ) (ks : List Kind) (k : Kind) → position_from (λ j. same_kind j k) i ks ≡ Some (i + m) → slice_get ks m ≡ Some k
-place_after i m [] k h = cc
-place_after i m (j ∷ ks) k h = found_at i m j ks k (same_kind j k) refl h (λ n e. place_after (i + 1) n ks k e)
-  where
-    found_at : (i m : ℕ) (j : Kind) (ks : List Kind) (k : Kind) (b : Bool) → same_kind j k ≡ b → cond b (Some i) (position_from (λ j. same_kind j k) (i + 1) ks) ≡ Some (i + m) → ((n : ℕ) → position_from (λ j. same_kind j k) (i + 1) ks ≡ Some (i + 1 + n) → slice_get ks n ≡ Some k) → slice_get (j ∷ ks) m ≡ Some k
-    found_at i zero j ks k true is e rest = ap Some (same_kind_true j k is)
-    found_at i (suc m) j ks k true is e rest = let same : i ≡ i + suc m = cc in absurd (omega arith)
-    found_at i zero j ks k false is e rest = let after : i + 1 ≤ i + 0 = from_after (i + 1) ks k (i + 0) e in absurd (omega arith)
-    found_at i (suc m) j ks k false is e rest = let same : i + suc m ≡ i + 1 + m = omega arith in rest m (e ∙ ap Some same)
-
 -- a kind stands at its place
 pub kind_at_place : (ks : List Kind) (k : Kind) (n : ℕ) → place_of ks k ≡ Some n → slice_get ks n ≡ Some k
-kind_at_place ks k n h = let same : n ≡ 0 + n = omega arith in place_after 0 n ks k (h ∙ ap Some same)
+kind_at_place ks k n h =
+    let sum : n ≡ 0 + n = omega arith
+    in let found = position_passes (λ j. same_kind j k) 0 n ks (h ∙ ap Some sum)
+    in found.1 ∙ ap Some (same_kind_true found.0 k found.2)
 
 apart_at : (j : Kind) (ks : List Kind) (m : ℕ) (k : Kind) → AllByRecursion (λ y. same_kind j y ≡ false) ks → slice_get ks m ≡ Some k → same_kind j k ≡ false
 apart_at j [] m k h e = cc

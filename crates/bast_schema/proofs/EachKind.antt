@@ -1,6 +1,6 @@
 -- What the table of kinds says of names and numbers, entry by entry.
-use Rattle.std.proofs.Common.{ℕ, List, [], ◌∷◌, ◌≡◌, ◌<◌, ◌+◌, Bool, true, false, refl, ap, sym, ◌∙◌, Option, None, Some, cond, eqb, ◌&&◌, zero, suc, lit<, arith}
-use Rattle.std.specs.List.{find, slice_get}
+use Rattle.std.proofs.Common.{ℕ, List, [], ◌∷◌, ◌≡◌, ◌<◌, ◌+◌, Bool, true, false, refl, ap, sym, ◌∙◌, Option, None, Some, cond, eqb, ◌&&◌, zero, suc, lit<, arith, length}
+use Rattle.std.specs.List.{slice_get}
 use Rattle.std.specs.Str.{bytes_eq}
 use Rattle.std.proofs.lemmas.Bool.{eqb-true}
 use Rattle.std.proofs.lemmas.Bool.Decides.{nat_tests}
@@ -8,6 +8,9 @@ use Rattle.std.proofs.lemmas.Slice.Eq.{bytes_eq-Decides}
 use Rattle.bast_schema.specs.declared.kind.Kind.{Kind}
 use Rattle.bast_schema.specs.declared.kind.Kind.TheVariants.{Null, Script, AssertedScriptGlobalScope, AssertedVarScope, AssertedBlockScope, AssertedParameterScope, AssertedBoundNamesScope, AssertedDeclaredName, AssertedPositionalParameterName, AssertedRestParameterName, AssertedBoundName, Directive, BindingIdentifier, BindingWithInitializer, FormalParameters, FunctionContents, GetterContents, SetterContents, EagerFunctionDeclaration, LazyFunctionDeclaration, EagerMethod, LazyMethod, EagerGetter, LazyGetter, EagerSetter, LazySetter, LiteralPropertyName, ComputedPropertyName, DataProperty, ShorthandProperty, SpreadElement, TemplatePart, VariableDeclarator, ForInOfBinding, CatchClause, SwitchCase, SwitchDefault, Block, VarDeclaration, LexicalDeclaration, ExpressionStatement, EmptyStatement, DebuggerStatement, IfStatement, ForStatement, ForInStatement, ForOfStatement, WhileStatement, DoWhileStatement, ReturnStatement, BreakStatement, ContinueStatement, ThrowStatement, TryCatchStatement, TryFinallyStatement, SwitchStatement, SwitchStatementWithDefault, LabelledStatement, ThisExpression, LiteralNullExpression, LiteralBooleanExpression, LiteralNumericExpression, LiteralStringExpression, IdentifierExpression, TemplateExpression, ArrayExpression, ObjectExpression, EagerFunctionExpression, LazyFunctionExpression, EagerArrowExpressionWithFunctionBody, EagerArrowExpressionWithExpression, StaticMemberExpression, ComputedMemberExpression, CallExpression, NewExpression, UnaryExpression, UpdateExpression, BinaryExpression, AssignmentExpression, CompoundAssignmentExpression, ConditionalExpression, SequenceExpression}
 use Rattle.bast_schema.specs.Kinds.{kind_name, kinds, number, same_kind, kind_of_name}
+use Rattle.bast_schema.specs.Fields.{fields, field_names}
+use Rattle.bast_schema.proofs.Both.{and_first, and_second}
+use Rattle.bast_schema.proofs.Places.{found_passes}
 
 pub number_less : (k : Kind) → number k < 82
 number_less Null = lit< tt
@@ -198,14 +201,6 @@ ordered i (k ∷ ks) = eqb (number k) i && ordered (suc i) ks
 kinds_ordered : ordered 0 kinds ≡ true
 kinds_ordered = refl
 
-and_first : (a b : Bool) → (a && b) ≡ true → a ≡ true
-and_first true b e = refl
-and_first false b e = cc
-
-and_second : (a b : Bool) → (a && b) ≡ true → b ≡ true
-and_second true b e = e
-and_second false b e = cc
-
 ordered_at : (i : ℕ) (ks : List Kind) (n : ℕ) (k : Kind) → ordered i ks ≡ true → slice_get ks n ≡ Some k → number k ≡ i + n
 ordered_at i [] n k h e = cc
 ordered_at i (j ∷ ks) zero k h e =
@@ -309,14 +304,175 @@ kind_of_its_name SequenceExpression = refl
 pub kind_name_apart : (j k : Kind) → kind_name j ≡ kind_name k → j ≡ k
 kind_name_apart j k e = let found : Some j ≡ Some k = sym (kind_of_its_name j) ∙ ap kind_of_name e ∙ kind_of_its_name k in cc
 
-found_passes : {X : Type 0} (p : X → Bool) (xs : List X) (x : X) → find p xs ≡ Some x → p x ≡ true
-found_passes p [] x e = cc
-found_passes p (y ∷ ys) x e = found_first p y ys x (p y) refl e (found_passes p ys x)
-  where
-    found_first : {X : Type 0} (p : X → Bool) (y : X) (ys : List X) (x : X) (b : Bool) → p y ≡ b → cond b (Some y) (find p ys) ≡ Some x → (find p ys ≡ Some x → p x ≡ true) → p x ≡ true
-    found_first p y ys x true is e rest = let same : y ≡ x = cc in ap p (sym same) ∙ is
-    found_first p y ys x false is e rest = rest e
-
 -- the kind that is found by a name has it
 pub name_of_found : (n : List ℕ) (k : Kind) → kind_of_name n ≡ Some k → kind_name k ≡ n
 name_of_found n k e = (bytes_eq-Decides (kind_name k) n).0 (found_passes (λ j. bytes_eq (kind_name j) n) kinds k e)
+
+-- each field has a name
+pub names_as_many : (k : Kind) → length (field_names k) ≡ length (fields k)
+names_as_many Null = refl
+names_as_many Script = refl
+names_as_many AssertedScriptGlobalScope = refl
+names_as_many AssertedVarScope = refl
+names_as_many AssertedBlockScope = refl
+names_as_many AssertedParameterScope = refl
+names_as_many AssertedBoundNamesScope = refl
+names_as_many AssertedDeclaredName = refl
+names_as_many AssertedPositionalParameterName = refl
+names_as_many AssertedRestParameterName = refl
+names_as_many AssertedBoundName = refl
+names_as_many Directive = refl
+names_as_many BindingIdentifier = refl
+names_as_many BindingWithInitializer = refl
+names_as_many FormalParameters = refl
+names_as_many FunctionContents = refl
+names_as_many GetterContents = refl
+names_as_many SetterContents = refl
+names_as_many EagerFunctionDeclaration = refl
+names_as_many LazyFunctionDeclaration = refl
+names_as_many EagerMethod = refl
+names_as_many LazyMethod = refl
+names_as_many EagerGetter = refl
+names_as_many LazyGetter = refl
+names_as_many EagerSetter = refl
+names_as_many LazySetter = refl
+names_as_many LiteralPropertyName = refl
+names_as_many ComputedPropertyName = refl
+names_as_many DataProperty = refl
+names_as_many ShorthandProperty = refl
+names_as_many SpreadElement = refl
+names_as_many TemplatePart = refl
+names_as_many VariableDeclarator = refl
+names_as_many ForInOfBinding = refl
+names_as_many CatchClause = refl
+names_as_many SwitchCase = refl
+names_as_many SwitchDefault = refl
+names_as_many Block = refl
+names_as_many VarDeclaration = refl
+names_as_many LexicalDeclaration = refl
+names_as_many ExpressionStatement = refl
+names_as_many EmptyStatement = refl
+names_as_many DebuggerStatement = refl
+names_as_many IfStatement = refl
+names_as_many ForStatement = refl
+names_as_many ForInStatement = refl
+names_as_many ForOfStatement = refl
+names_as_many WhileStatement = refl
+names_as_many DoWhileStatement = refl
+names_as_many ReturnStatement = refl
+names_as_many BreakStatement = refl
+names_as_many ContinueStatement = refl
+names_as_many ThrowStatement = refl
+names_as_many TryCatchStatement = refl
+names_as_many TryFinallyStatement = refl
+names_as_many SwitchStatement = refl
+names_as_many SwitchStatementWithDefault = refl
+names_as_many LabelledStatement = refl
+names_as_many ThisExpression = refl
+names_as_many LiteralNullExpression = refl
+names_as_many LiteralBooleanExpression = refl
+names_as_many LiteralNumericExpression = refl
+names_as_many LiteralStringExpression = refl
+names_as_many IdentifierExpression = refl
+names_as_many TemplateExpression = refl
+names_as_many ArrayExpression = refl
+names_as_many ObjectExpression = refl
+names_as_many EagerFunctionExpression = refl
+names_as_many LazyFunctionExpression = refl
+names_as_many EagerArrowExpressionWithFunctionBody = refl
+names_as_many EagerArrowExpressionWithExpression = refl
+names_as_many StaticMemberExpression = refl
+names_as_many ComputedMemberExpression = refl
+names_as_many CallExpression = refl
+names_as_many NewExpression = refl
+names_as_many UnaryExpression = refl
+names_as_many UpdateExpression = refl
+names_as_many BinaryExpression = refl
+names_as_many AssignmentExpression = refl
+names_as_many CompoundAssignmentExpression = refl
+names_as_many ConditionalExpression = refl
+names_as_many SequenceExpression = refl
+
+pub fields_few : (k : Kind) → length (fields k) < 6
+fields_few Null = lit< tt
+fields_few Script = lit< tt
+fields_few AssertedScriptGlobalScope = lit< tt
+fields_few AssertedVarScope = lit< tt
+fields_few AssertedBlockScope = lit< tt
+fields_few AssertedParameterScope = lit< tt
+fields_few AssertedBoundNamesScope = lit< tt
+fields_few AssertedDeclaredName = lit< tt
+fields_few AssertedPositionalParameterName = lit< tt
+fields_few AssertedRestParameterName = lit< tt
+fields_few AssertedBoundName = lit< tt
+fields_few Directive = lit< tt
+fields_few BindingIdentifier = lit< tt
+fields_few BindingWithInitializer = lit< tt
+fields_few FormalParameters = lit< tt
+fields_few FunctionContents = lit< tt
+fields_few GetterContents = lit< tt
+fields_few SetterContents = lit< tt
+fields_few EagerFunctionDeclaration = lit< tt
+fields_few LazyFunctionDeclaration = lit< tt
+fields_few EagerMethod = lit< tt
+fields_few LazyMethod = lit< tt
+fields_few EagerGetter = lit< tt
+fields_few LazyGetter = lit< tt
+fields_few EagerSetter = lit< tt
+fields_few LazySetter = lit< tt
+fields_few LiteralPropertyName = lit< tt
+fields_few ComputedPropertyName = lit< tt
+fields_few DataProperty = lit< tt
+fields_few ShorthandProperty = lit< tt
+fields_few SpreadElement = lit< tt
+fields_few TemplatePart = lit< tt
+fields_few VariableDeclarator = lit< tt
+fields_few ForInOfBinding = lit< tt
+fields_few CatchClause = lit< tt
+fields_few SwitchCase = lit< tt
+fields_few SwitchDefault = lit< tt
+fields_few Block = lit< tt
+fields_few VarDeclaration = lit< tt
+fields_few LexicalDeclaration = lit< tt
+fields_few ExpressionStatement = lit< tt
+fields_few EmptyStatement = lit< tt
+fields_few DebuggerStatement = lit< tt
+fields_few IfStatement = lit< tt
+fields_few ForStatement = lit< tt
+fields_few ForInStatement = lit< tt
+fields_few ForOfStatement = lit< tt
+fields_few WhileStatement = lit< tt
+fields_few DoWhileStatement = lit< tt
+fields_few ReturnStatement = lit< tt
+fields_few BreakStatement = lit< tt
+fields_few ContinueStatement = lit< tt
+fields_few ThrowStatement = lit< tt
+fields_few TryCatchStatement = lit< tt
+fields_few TryFinallyStatement = lit< tt
+fields_few SwitchStatement = lit< tt
+fields_few SwitchStatementWithDefault = lit< tt
+fields_few LabelledStatement = lit< tt
+fields_few ThisExpression = lit< tt
+fields_few LiteralNullExpression = lit< tt
+fields_few LiteralBooleanExpression = lit< tt
+fields_few LiteralNumericExpression = lit< tt
+fields_few LiteralStringExpression = lit< tt
+fields_few IdentifierExpression = lit< tt
+fields_few TemplateExpression = lit< tt
+fields_few ArrayExpression = lit< tt
+fields_few ObjectExpression = lit< tt
+fields_few EagerFunctionExpression = lit< tt
+fields_few LazyFunctionExpression = lit< tt
+fields_few EagerArrowExpressionWithFunctionBody = lit< tt
+fields_few EagerArrowExpressionWithExpression = lit< tt
+fields_few StaticMemberExpression = lit< tt
+fields_few ComputedMemberExpression = lit< tt
+fields_few CallExpression = lit< tt
+fields_few NewExpression = lit< tt
+fields_few UnaryExpression = lit< tt
+fields_few UpdateExpression = lit< tt
+fields_few BinaryExpression = lit< tt
+fields_few AssignmentExpression = lit< tt
+fields_few CompoundAssignmentExpression = lit< tt
+fields_few ConditionalExpression = lit< tt
+fields_few SequenceExpression = lit< tt

@@ -1,4 +1,9 @@
+pub mod Both
+pub mod ChoiceTexts
 pub mod Distinct
 pub mod EachKind
+pub mod LeastWrong
 pub mod Lists
 pub mod Places
+pub mod Sums
+pub mod Typed

@@ -1,5 +1,6 @@
 pub mod Choices
 pub mod Code
+pub mod Counts
 pub mod Falls
 pub mod Fields
 pub mod Held
@@ -9,3 +10,4 @@ pub mod Made
 pub mod Tree
 pub mod Unions
 pub mod View
+pub mod Wrong

@@ -47,7 +47,7 @@ fn texts_of(set: EnumId) -> &'static [&'static str]
     }
 }
 
-/// How many choices a set has.
+/// How many texts a set has.
 pub fn choices_in(set: EnumId) -> usize
     ensures is { result ≡ length (choice_texts set) }
     ensures few { result < 256 }
@@ -63,7 +63,7 @@ pub fn choices_in(set: EnumId) -> usize
     }
 }
 
-/// The text of a choice.
+/// The text of a choice, by its number in the set.
 pub fn choice_text(set: EnumId, choice: u8) -> &'static str
     requires { choice < length (choice_texts set) }
     ensures { slice_get (choice_texts set) choice ≡ Some result.now }
@@ -71,7 +71,7 @@ pub fn choice_text(set: EnumId, choice: u8) -> &'static str
     texts_of(set)[choice as usize]
 }
 
-/// The choice with a text.
+/// The number of the choice that has a text, where one does.
 pub fn choice_of(set: EnumId, text: &str) -> Option<u8>
     ensures { result ≡ choice_of_text set text.now }
 {

@@ -3,7 +3,11 @@ ghost use Rattle.bast_schema.specs.Fields.{fields, field_names, has_lazy};
 
 use crate::kind::{EnumId, FieldType, Kind, Union};
 
-/// The fields of a kind, in order.
+// The two tables below are the attributes of the node interfaces of the Binary AST proposal, in the proposal's order, with
+// those interfaces left out that no syntax read here stands for. Texts, names and labels are strings there; a number is
+// whole and below 2^53, and a function's contents are lazy in the `Lazy` kinds.
+
+/// The types of the fields of a kind, in order.
 pub fn fields_of(kind: Kind) -> &'static [FieldType]
     ensures is { result.now ≡ fields kind }
     ensures few { length result.now < 6 }
@@ -437,7 +441,7 @@ pub fn fields_of(kind: Kind) -> &'static [FieldType]
 }
 
 /// The names of a kind's fields.
-fn field_names_of(kind: Kind) -> &'static [&'static str]
+pub(crate) fn field_names_of(kind: Kind) -> &'static [&'static str]
     ensures { map (λ t. t.now) result.now ≡ field_names kind }
 {
     match kind {
@@ -532,7 +536,7 @@ fn field_names_of(kind: Kind) -> &'static [&'static str]
     }
 }
 
-/// The name of a field.
+/// The name of a field of a kind, as the proposal's interface has it.
 pub fn field_name(kind: Kind, field: u32) -> &'static str
     requires { field < length (fields kind) }
     ensures { slice_get (field_names kind) field ≡ Some result.now }
@@ -540,7 +544,7 @@ pub fn field_name(kind: Kind, field: u32) -> &'static str
     field_names_of(kind)[field as usize]
 }
 
-/// Whether a kind has a lazy field.
+/// Whether a kind has a field whose node may be left as bytes.
 pub fn is_lazy(kind: Kind) -> bool
     ensures { result ≡ has_lazy kind }
 {

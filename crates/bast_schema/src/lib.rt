@@ -1,4 +1,8 @@
 //! The kinds of node with their fields, and well-typed trees of them.
+//!
+//! The kinds, their fields and the sets of texts are those of the node interfaces of the Binary AST proposal, as far as
+//! they stand for the syntax of ECMA-262, 6th edition, that is read and written here. Fields, choices, kinds and places
+//! are numbered from 0.
 #![tactic(auto)]
 
 mod choices;
@@ -16,3 +20,6 @@ pub use names::{is_counted, kind_named, kind_numbered, name_of, number_of};
 pub use node::{Node, NodeFault, Value, Values};
 pub use table::{Added, KindTable};
 pub use unions::allows;
+
+#[cfg(test)]
+mod tests;

@@ -3,7 +3,7 @@ ghost use Rattle.bast_schema.specs.Kinds.{kind_name, number, kinds, kind_of_name
 
 use crate::kind::Kind;
 
-/// The name of a kind.
+/// The name of a kind in a file: that of its interface, and `_Null` for the kind of an absent node.
 pub fn name_of(kind: Kind) -> &'static str
     ensures { result.now ≡ kind_name kind }
 {
@@ -93,6 +93,7 @@ pub fn name_of(kind: Kind) -> &'static str
     }
 }
 
+/// Every kind, in the order of the enum.
 static KINDS: [Kind; 82] = [
     Kind::Null,
     Kind::Script,
@@ -178,21 +179,21 @@ static KINDS: [Kind; 82] = [
     Kind::SequenceExpression,
 ];
 
-/// The place of a kind among all of them.
+/// The place of a kind in the order of the enum.
 pub fn number_of(kind: Kind) -> u8
     ensures { result ≡ number kind }
 {
     kind as u8
 }
 
-/// The kind of a name.
+/// The kind that has a name, where one does.
 pub fn kind_named(name: &str) -> Option<Kind>
     ensures { result ≡ kind_of_name name.now }
 {
     KINDS.iter().copied().find(|kind| name_of(*kind) == name)
 }
 
-/// The kind with a number.
+/// The kind at a place in the order of the enum, where there is one.
 pub fn kind_numbered(number: u32) -> Option<Kind>
     ensures { result ≡ slice_get kinds number }
 {
@@ -206,7 +207,7 @@ pub(crate) fn kind_at(list: &[Kind], place: usize) -> Option<Kind>
     list.get(place).copied()
 }
 
-/// Whether a kind counts for the depth of a tree.
+/// Whether a node of a kind counts for the depth of a tree. Scopes, what they declare and absent nodes do not.
 pub fn is_counted(kind: Kind) -> bool
     ensures { result ≡ counted kind }
 {

@@ -18,18 +18,25 @@ use std::marker::Model;
 #[derive(Drop)]
 pub enum Value {
     Node(Node),
+    /// No node, where one is optional.
     Absent,
     List(Values),
     Bool(bool),
+    /// The place of a parameter.
     Index(u32),
+    /// A whole number, below 2^53 in a node.
     Whole(u64),
+    /// A text, a name or a label, as its number in the table of strings.
     Name(NameId),
+    /// No label.
     NoName,
+    /// The number of a text of the field's set.
     Choice(u8),
+    /// The bytes that spell a lazy field's node: those of the file from `from` on and before `to`.
     Window { from: u32, to: u32 },
 }
 
-/// A list of values.
+/// A list of values, whether or not they fit a field.
 #[cycle(tree)]
 #[derive(Drop)]
 pub struct Values {
@@ -59,7 +66,7 @@ impl Model for Values {
     ghost size_decreases = { λ a h. Prim.omega (arith, most_le-weight_in a.items.items) };
 }
 
-/// A node with its fields.
+/// A node: a kind, and a value for each of its fields. It is well typed, and at most 512 counted nodes deep.
 #[cycle(tree)]
 #[derive(Drop)]
 pub struct Node {
@@ -89,7 +96,7 @@ impl Model for Node {
 }
 
 impl Node {
-    /// The node of a kind with these fields.
+    /// The node of a kind with these fields. It takes no memory, and the fields are given up where it is refused.
     pub fn new(kind: Kind, fields: Vec<Value>) -> Result<Node, NodeFault>
         ensures { result ≡ node_of kind (data_of fields.items) }
     {
@@ -115,7 +122,7 @@ impl Node {
         self.kind
     }
 
-    /// The value of a field.
+    /// The value of a field, by the field's number.
     pub fn field(&self, field: u32) -> &Value
         requires { field < count (values_of self.now) }
         ensures { value_at (values_of self.now) field ≡ Some (datum result.now) }
@@ -123,7 +130,7 @@ impl Node {
         &self.fields.as_slice()[field as usize]
     }
 
-    /// The values of the fields.
+    /// The values of the fields, in order.
     pub fn fields(&self) -> &[Value]
         ensures tree { branch (kind_of self.now) (data_of result.now) ≡ self.now }
         ensures typed { IsTrue (fit (fields (kind_of self.now)) (data_of result.now)) }
@@ -131,7 +138,7 @@ impl Node {
         self.fields.as_slice()
     }
 
-    /// The kind and the values of the fields.
+    /// The kind and the values of the fields, without the node.
     pub fn parts(self) -> (Kind, Vec<Value>)
         ensures tree { branch result.0 (data_of result.1.items) ≡ self }
         ensures typed { IsTrue (typed self) }
@@ -142,7 +149,7 @@ impl Node {
         (kind, items)
     }
 
-    /// A node of its own that is the same tree.
+    /// The same tree again, in memory of its own from the allocators of this one's lists.
     #[cycle(copy)]
     pub fn copy(&self) -> Result<Node, Memory>
         ensures { IfOk result (λ t. t ≡ self.now) }
@@ -154,7 +161,7 @@ impl Node {
         })
     }
 
-    /// How many counted nodes are on the longest path down from this one.
+    /// The largest number of counted nodes on a path down from this node, itself among them.
     pub fn depth(&self) -> u32
         ensures depth { result ≡ depth self.now }
         ensures most { result ≤ 512 }
@@ -209,7 +216,7 @@ impl Value {
 }
 
 impl Values {
-    /// The values of a list.
+    /// The list of these values. It takes no memory.
     pub fn of(items: Vec<Value>) -> Values
         ensures { result ≡ data_of items.items }
     {
@@ -223,7 +230,7 @@ impl Values {
         self.items.as_slice()
     }
 
-    /// The values, in order.
+    /// The values, in order, without the list. It takes no memory.
     pub fn into_vec(self) -> Vec<Value>
         ensures { data_of result.items ≡ self }
     {
@@ -304,10 +311,13 @@ fn depth_of(value: &Value) -> u32
 /// Why no node has these fields.
 #[derive(Debug, PartialEq, Eq, Drop)]
 pub enum NodeFault {
+    /// The value of this field is missing, one too many or not of the field's type. It is the least such field.
     Mistyped { field: u32 },
+    /// The fields are well typed, and the node would be more than 512 deep.
     TooDeep,
 }
 
+/// The same values again.
 #[cycle(copy)]
 fn copy_values(values: &Values) -> Result<Values, Memory>
     ensures { IfOk result (λ v. v ≡ values.now) }
@@ -320,6 +330,7 @@ fn copy_values(values: &Values) -> Result<Values, Memory>
     Ok(Values { items: copies })
 }
 
+/// The same value again.
 #[cycle(copy)]
 fn copy_value(value: &Value) -> Result<Value, Memory>
     ensures { IfOk result (λ v. v ≡ value.now) }

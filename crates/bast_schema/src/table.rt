@@ -51,7 +51,7 @@ impl KindTable {
         }
     }
 
-    /// Adds a kind at the end, unless it is there.
+    /// Adds a kind at the end, unless it is there. It takes memory only for a kind that was not there.
     pub fn add(&mut self, kind: Kind) -> Result<Added, Memory>
         ensures answer { IfOk result (λ a. a ≡ added_of self.old kind) }
         ensures kinds { self.new ≡ (if is_ok result then with_kind self.old kind else self.old) }
@@ -67,14 +67,14 @@ impl KindTable {
         }
     }
 
-    /// The kind with a number.
+    /// The kind with a number, where there is one.
     pub fn get(&self, number: u32) -> Option<Kind>
         ensures { result ≡ slice_get self.now number }
     {
         kind_at(self.kinds.as_slice(), number as usize)
     }
 
-    /// The number of a kind.
+    /// The number of a kind, where it is there.
     pub fn number(&self, kind: Kind) -> Option<u32>
         ensures { result ≡ place_of self.now kind }
     {
