@@ -86,7 +86,8 @@ impl KindTable {
 
     /// The kinds, in order.
     pub fn as_slice(&self) -> &[Kind]
-        ensures { result.now ≡ self.now }
+        ensures is { result.now ≡ self.now }
+        ensures few { length result.now ≤ 82 }
     {
         self.kinds.as_slice()
     }

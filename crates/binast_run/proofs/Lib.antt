@@ -1,0 +1,4 @@
+pub mod DigitLemmas
+pub mod OutputLemmas
+pub mod SourceFile
+pub mod Used

@@ -1,0 +1,18 @@
+//! The program's one call: from words, an input, an output and notes to a status.
+#![tactic(auto)]
+
+mod command;
+mod encode;
+mod first_source;
+mod gate;
+mod outcome;
+mod output;
+mod program;
+mod source_tree;
+mod status;
+#[cfg(test)]
+mod tests;
+mod writer;
+
+pub use gate::{Gate, Idle};
+pub use program::run;
