@@ -18,18 +18,21 @@ impl<T> Model for Items<T> {
 }
 
 impl<T> Items<T> {
+    /// Holds these items, and takes no memory.
     pub fn of(list: Vec<T>) -> Items<T>
         ensures { result ≡ list.items }
     {
         Items(list)
     }
 
+    /// The items, in order.
     pub fn as_slice(&self) -> &[T]
         ensures { result.now ≡ self.now }
     {
         self.0.as_slice()
     }
 
+    /// The items in the `Vec` that held them.
     pub fn into_vec(self) -> Vec<T>
         ensures { result.items ≡ self }
     {
