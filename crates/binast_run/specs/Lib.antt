@@ -1,5 +1,6 @@
 pub mod File
 pub mod FirstSource
+pub mod Laws
 pub mod Outcome
 pub mod Output
 pub mod Result

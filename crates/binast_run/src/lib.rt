@@ -5,6 +5,7 @@ mod command;
 mod encode;
 mod first_source;
 mod gate;
+mod laws;
 mod outcome;
 mod output;
 mod program;
@@ -15,4 +16,5 @@ mod tests;
 mod writer;
 
 pub use gate::{Gate, Idle};
+pub use laws::files_of_first_sources_are_in_grammar;
 pub use program::run;
