@@ -8,6 +8,7 @@ use Rattle.string_table.specs.declared.entry.Entry.TheVariants.{Text, Absent}
 use Rattle.string_table.specs.declared.entry.AddedName.{AddedName}
 use Rattle.string_table.specs.declared.entry.AddedName.TheVariants.{New, There}
 
+-- an entry as the contracts of a table see it
 abbrev pub value_of : Entry → Option (List ℕ)
 value_of (Text bytes) = Some bytes
 value_of Absent = None

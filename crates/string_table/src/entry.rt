@@ -3,6 +3,7 @@ use bast_base::{Chars, NameId};
 /// What a string table holds at a place.
 #[derive(Debug, Drop)]
 pub enum Entry {
+    /// A text, which may be empty.
     Text(Chars),
     /// The string that is not there, which differs from each text, also from the empty one.
     Absent,

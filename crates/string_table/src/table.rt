@@ -16,7 +16,7 @@ use std::marker::Model;
 #[derive(Drop)]
 pub struct StringTable {
     alloc: Global,
-    // The texts without the absent string, which a text that is looked up is compared with where it lies.
+    // The texts alone, in order. A set that held the absent string too could be searched only with a copy of the text.
     texts: IndexSet<String>,
     // The place of the absent string, once it was added. The texts from there on stand one place later than in `texts`.
     absent: Option<u32>,

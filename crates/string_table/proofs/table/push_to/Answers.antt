@@ -1,5 +1,4 @@
-use Rattle.std.proofs.Common.{◌≡◌, None, List, ℕ, position, ap, sym, ◌∙◌, map, string_bytes, ◌++◌, ◌∷◌, []}
-use Rattle.std.specs.Str.{bytes_eq}
+use Rattle.std.proofs.Common.{List, ℕ, ap, ◌∙◌, map, string_bytes, ◌++◌, ◌∷◌, []}
 use Rattle.string_table.specs.Inside.{texts_of}
 use Rattle.string_table.proofs.Kept.{texts-insert_key}
 use Rattle.string_table.proofs.table.push_to.Goals as goal

@@ -1,4 +1,4 @@
-use Rattle.std.proofs.Common.{◌≡◌, ℕ, length, None, Some, sym, ap, ◌∙◌, string_bytes}
+use Rattle.std.proofs.Common.{◌≡◌, ℕ, length, None, sym, ap, ◌∙◌, string_bytes}
 use Rattle.std.proofs.lemmas.List.{length-map}
 use Rattle.string_table.specs.Inside.{texts_of}
 use Rattle.string_table.specs.declared.entry.AddedName.TheVariants.{New}

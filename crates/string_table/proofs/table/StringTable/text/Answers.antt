@@ -1,6 +1,4 @@
-use Rattle.std.proofs.Common.{◌≡◌, ◌<◌, ◌-◌, Some, None, length, slice_get, option_copied, sym, ap, ◌∙◌, arith}
-use Rattle.std.specs.Option.{option_map}
-use Rattle.string_table.specs.Inside.{texts_of}
+use Rattle.std.proofs.Common.{◌<◌, arith}
 use Rattle.string_table.proofs.Kept.{slice_get-kept_after}
 use Rattle.string_table.proofs.table.StringTable.text.Goals as goal
 
