@@ -69,3 +69,7 @@ not_beyond k byte tells is fifth =
       | inr small ↦ small
     ] in
     (even, small)
+
+-- a byte that goes on isn't the fifth
+pub not_fifth : {b : Bool} (k byte : ℕ) → ((b ≡ true) ↔ ((k ≡ 4) × ((byte % 2 ≡ 1) ⊎ (0x1E < byte)))) → b ≡ false → (byte % 2 ≡ 0 → ⊥) → k ≡ 4 → ⊥
+not_fifth k byte tells is odd fifth = odd (not_beyond k byte tells is fifth).0

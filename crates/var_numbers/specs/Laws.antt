@@ -1,5 +1,5 @@
 -- What holds of every number's spelling and pattern.
-use Rattle.std.specs.Prelude.{◌≡◌, ℕ, ◌^◌, ◌<◌, List, ◌++◌, length, drop, Ok}
+use Rattle.std.specs.Prelude.{◌≡◌, ℕ, ◌+◌, ◌*◌, ◌^◌, ◌<◌, List, ◌++◌, length, drop, Ok}
 use Rattle.std.specs.List.{All}
 use Rattle.var_numbers.specs.Pattern.{pattern}
 use Rattle.var_numbers.specs.Varnum.{varnum}
@@ -21,3 +21,9 @@ IsReadOnlyWhereSpelled =
 -- a pattern is that of at most one whole number below 2^53
 abbrev pub IsInjective : Type 0
 IsInjective = (m n : ℕ) → m < 2 ^ 53 → n < 2 ^ 53 → pattern m ≡ pattern n → m ≡ n
+
+-- The pattern of n above 0 is the biased exponent 1023 + e and the 52 bits f behind the leading one, where n is
+-- 2^e (1 + f / 2^52), as IEEE 754-2008 has it in section 3.4.
+abbrev pub IsBinary64 : Type 0
+IsBinary64 =
+    (n : ℕ) → 0 < n → n < 2 ^ 53 → (e : ℕ) × (f : ℕ) × (f < 2 ^ 52) × (pattern n ≡ (1023 + e) * 2 ^ 52 + f) × (n * 2 ^ 52 ≡ 2 ^ e * (2 ^ 52 + f))

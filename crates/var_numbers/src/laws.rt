@@ -1,4 +1,4 @@
-ghost use Rattle.var_numbers.specs.Laws.{IsInjective, IsPrefixFree, IsReadBack, IsReadOnlyWhereSpelled};
+ghost use Rattle.var_numbers.specs.Laws.{IsBinary64, IsInjective, IsPrefixFree, IsReadBack, IsReadOnlyWhereSpelled};
 
 /// A number has one spelling, and no spelling is a front of another. It does nothing: its clause is the law.
 pub fn varnum_is_prefix_free()
@@ -18,4 +18,9 @@ pub fn only_varnum_is_read()
 /// Whole numbers below 2^53 with one pattern are one number. It does nothing: its clause is the law.
 pub fn pattern_is_injective()
     ensures { IsInjective }
+{}
+
+/// A whole number's pattern is its binary64 encoding. It does nothing: its clause is the law.
+pub fn pattern_is_binary64()
+    ensures { IsBinary64 }
 {}

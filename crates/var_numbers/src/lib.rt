@@ -9,7 +9,8 @@ mod varnum;
 mod varnum_read;
 
 pub use laws::{
-    only_varnum_is_read, pattern_is_injective, varnum_is_prefix_free, varnum_is_read_back,
+    only_varnum_is_read, pattern_is_binary64, pattern_is_injective, varnum_is_prefix_free,
+    varnum_is_read_back,
 };
 pub use pattern::{pattern_of, whole_of};
 pub use varnum::{put_varnum, varnum_len};

@@ -2,7 +2,7 @@ use Rattle.std.proofs.Common.{◌≡◌, ◌-◌, ◌+◌, ◌<◌, ◌∙◌, l
 use Rattle.std.proofs.lemmas.Bool.{cases_lt}
 use Rattle.bast_base.specs.declared.errors.Why.TheVariants.{Ended, Overlong, TooBig}
 use Rattle.var_numbers.proofs.ReadingLemmas.{Reading, Last, Fits, reading-fits, reading-more, scale_early, ended-here, too_big-here, overlong-here, number-here}
-use Rattle.var_numbers.proofs.RangeLemmas.{range-length, range-byte, only-spelled, spells-here, fault-there, number-there, not_beyond}
+use Rattle.var_numbers.proofs.RangeLemmas.{range-length, range-byte, only-spelled, spells-here, fault-there, number-there, not_beyond, not_fifth}
 use Rattle.var_numbers.proofs.varnum_read.read_varnum.Given as given
 use Rattle.var_numbers.proofs.varnum_read.read_varnum.Goals as goal
 
@@ -74,14 +74,9 @@ pub returns-then-byte-eq0-clause-only : goal.returns-then-byte-eq0-clause-only
 returns-then-byte-eq0-clause-only g c n more fits is =
     returns-then-byte-eq0-clause-exact g c ∙ only-spelled _ c.args.at n more fits is
 
--- a byte that goes on isn't the fifth
-not_fifth : (g : given.Over) (c : goal.After-from-in-groups g) → c.groups.place - c.args.at ≡ 4 → ⊥
-not_fifth g c fifth =
-    c.if-byte-eq0.false (not_beyond (c.groups.place - c.args.at) c.byte-byte.result c.is_beyond.ensures c.if-is_beyond.false fifth).0
-
 more-fits : (g : given.Over) (c : goal.After-from-in-groups g) → Fits c.groups.number c.groups.scale c.byte-byte.result
 more-fits g c =
-    reading-fits _ (c.groups.place - c.args.at) c.groups.number c.groups.scale c.byte-byte.result c.groups.invariant.0 (omega arith) (λ fifth. absurd (not_fifth g c fifth))
+    reading-fits _ (c.groups.place - c.args.at) c.groups.number c.groups.scale c.byte-byte.result c.groups.invariant.0 (omega arith) (λ fifth. absurd (not_fifth (c.groups.place - c.args.at) c.byte-byte.result c.is_beyond.ensures c.if-is_beyond.false c.if-byte-eq0.false fifth))
 
 pub overflow_mul-number : goal.overflow_mul-number
 overflow_mul-number g c = let f = more-fits g c in rw c.from-in-groups.ensures (omega arith)
@@ -92,7 +87,7 @@ overflow_add-number g c = let f = more-fits g c in rw c.from-in-groups.ensures (
 pub overflow_mul-scale : goal.overflow_mul-scale
 overflow_mul-scale g c =
     let r : Reading (slice_range c.args.tape.now c.args.at c.args.end) (c.groups.place - c.args.at) c.groups.number c.groups.scale = c.groups.invariant.0 in
-    omega (arith, scale_early _ _ _ _ r (not_fifth g c))
+    omega (arith, scale_early _ _ _ _ r (not_fifth (c.groups.place - c.args.at) c.byte-byte.result c.is_beyond.ensures c.if-is_beyond.false c.if-byte-eq0.false))
 
 pub groups-preserved : goal.groups-preserved
 groups-preserved g c =
@@ -101,7 +96,7 @@ groups-preserved g c =
     let long : length range ≡ c.args.end - c.args.at = range-length c.args.tape.now c.args.at c.args.end c.requires.order c.requires.within in
     let is : c.byte-byte.result ≡ slice_index range k = c.byte-byte.ensures.value ∙ sym (range-byte c.args.tape.now c.args.at c.groups.place c.args.end (omega arith) (omega arith)) in
     let next : c.groups.place + 1 - c.args.at ≡ k + 1 = omega arith in
-    let early : k < 4 = elim (cases_lt k 4) [ inl p ↦ p | inr p ↦ absurd (not_fifth g c (omega (arith, c.groups.invariant.0.few))) ] in
+    let early : k < 4 = elim (cases_lt k 4) [ inl p ↦ p | inr p ↦ absurd (not_fifth k c.byte-byte.result c.is_beyond.ensures c.if-is_beyond.false c.if-byte-eq0.false (omega (arith, c.groups.invariant.0.few))) ] in
     let odd : c.byte-byte.result % 2 ≡ 1 = elim (cases_lt 0 (c.byte-byte.result % 2)) [ inl p ↦ omega arith | inr p ↦ absurd (c.if-byte-eq0.false (omega arith)) ] in (
       rw (next, c.from-in-groups.ensures) (reading-more range k c.groups.number c.groups.scale c.byte-byte.result c.groups.invariant.0 (omega arith) is (omega arith) odd early),
       omega arith,
