@@ -1,32 +1,15 @@
 use super::*;
 use std::test::Fail;
 
-// A tree over `Items`.
-#[derive(Debug, Drop)]
-enum Tree {
-    Leaf(u32),
-    Branch(Items<Tree>),
-}
-
-// The sum of the leaves, which stops at its last value.
-fn sum(tree: &Tree) -> u32 {
-    match tree {
-        Tree::Leaf(n) => *n,
-        Tree::Branch(parts) => {
-            let mut all = 0u32;
-            for part in parts.as_slice() {
-                all = all.saturating_add(sum(part));
-            }
-            all
-        }
-    }
-}
-
 #[test]
-fn items_hold_a_tree(rt: HostRuntime) -> Result<(), Fail> {
+fn items_and_texts_give_back_what_they_hold(rt: HostRuntime) -> Result<(), Fail> {
     let alloc = rt.alloc();
-    let parts = Items::of(vec![in alloc; Tree::Leaf(1), Tree::Leaf(2)]?);
-    assert_eq!(rt; sum(&Tree::Branch(Items::of(parts.into_vec()))), 3);
+    let items = Items::of(vec![in alloc; 1u32, 2]?);
+    assert_eq!(rt; items.as_slice(), [1, 2].as_slice());
+    assert_eq!(rt; items.into_vec().len(), 2);
+    let text = Chars::of(String::from_str(alloc, "a")?);
+    assert_eq!(rt; text.as_str(), "a");
+    assert_eq!(rt; text.into_string().as_str(), "a");
     Ok(())
 }
 

@@ -1,11 +1,11 @@
-ghost use Rattle.std.specs.Prelude.{◌≡◌, ◌-◌, ◌^◌, ◌<◌, ◌++◌, ◌∷◌, [], Some, None, length, position, slice_get, option_copied, OnOk, OnErr, IfOk, IfSome, is_some};
+ghost use Rattle.std.specs.Prelude.{◌≡◌, ◌-◌, ◌^◌, ◌<◌, ◌++◌, ◌∷◌, [], Some, None, length, position, slice_get, string_bytes, option_copied, OnOk, OnErr, IfOk, IfSome, is_some};
 ghost use Rattle.std.specs.Option.{option_map};
 ghost use Rattle.std.specs.Str.{bytes_eq};
 ghost use Rattle.string_table.specs.Entries.{AreDistinct, added, added_name, place_in, value_of};
 ghost use Rattle.string_table.specs.Inside.{place_of_index, texts_of};
 
 use crate::{AddedName, Entry};
-use bast_base::{Memory, NameId};
+use bast_base::{Chars, Memory, NameId};
 use indexmap::IndexSet;
 use std::alloc::Global;
 use std::marker::Model;
@@ -97,7 +97,7 @@ impl StringTable {
     {
         match entry {
             Entry::Absent => Ok(self.add_absent()),
-            Entry::Text(text) => self.add_text(text.as_str()),
+            Entry::Text(text) => self.add_text(text),
         }
     }
 
@@ -109,38 +109,42 @@ impl StringTable {
         ensures unchanged { OnErr result (self.new ≡ self.old) }
         ensures only_new { OnErr result (place_in self.old (Some text.now) ≡ None) }
     {
-        match self.add_text(text)? {
-            AddedName::New(name) => Ok(name),
-            AddedName::There(name) => Ok(name),
+        match self.find(text) {
+            Some(name) => Ok(name),
+            None => {
+                let place = self.len();
+                self.push_text(String::from_str(self.alloc, text)?)?;
+                Ok(NameId(place))
+            }
         }
     }
 
     // `add` of a text.
-    fn add_text(&mut self, text: &str) -> Result<AddedName, Memory>
+    fn add_text(&mut self, text: Chars) -> Result<AddedName, Memory>
         requires { length self.old < 2 ^ 32 - 1 }
-        ensures answer { IfOk result (λ a. a ≡ added_name self.old (Some text.now)) }
-        ensures entries { OnOk result (self.new ≡ added self.old (Some text.now)) }
+        ensures answer { IfOk result (λ a. a ≡ added_name self.old (Some text)) }
+        ensures entries { OnOk result (self.new ≡ added self.old (Some text)) }
         ensures unchanged { OnErr result (self.new ≡ self.old) }
-        ensures only_new { OnErr result (place_in self.old (Some text.now) ≡ None) }
+        ensures only_new { OnErr result (place_in self.old (Some text) ≡ None) }
     {
-        match self.find(text) {
+        match self.find(text.as_str()) {
             Some(name) => Ok(AddedName::There(name)),
             None => {
                 let place = self.len();
-                self.push_text(text)?;
+                self.push_text(text.into_string())?;
                 Ok(AddedName::New(NameId(place)))
             }
         }
     }
 
     // Adds a text that is not there at the end.
-    fn push_text(&mut self, text: &str) -> Result<(), Memory>
+    fn push_text(&mut self, text: String) -> Result<(), Memory>
         requires room { length self.old < 2 ^ 32 - 1 }
-        requires absent { place_in self.old (Some text.now) ≡ None }
-        ensures entries { OnOk result (self.new ≡ self.old ++ Some text.now ∷ []) }
+        requires absent { place_in self.old (Some (string_bytes text)) ≡ None }
+        ensures entries { OnOk result (self.new ≡ self.old ++ Some (string_bytes text) ∷ []) }
         ensures unchanged { OnErr result (self.new ≡ self.old) }
     {
-        push_to(self.alloc, &mut self.texts, text)
+        push_to(&mut self.texts, text)
     }
 
     // `add` of the absent string.
@@ -179,13 +183,12 @@ fn text_at(texts: &IndexSet<String>, index: u32) -> Option<&str>
 }
 
 // Adds a text that is not there behind the others.
-fn push_to(alloc: Global, texts: &mut IndexSet<String>, text: &str) -> Result<(), Memory>
-    requires { position (bytes_eq text.now) (texts_of texts.old) ≡ None }
-    ensures pushed { OnOk result (texts_of texts.new ≡ texts_of texts.old ++ text.now ∷ []) }
+fn push_to(texts: &mut IndexSet<String>, text: String) -> Result<(), Memory>
+    requires { position (bytes_eq (string_bytes text)) (texts_of texts.old) ≡ None }
+    ensures pushed { OnOk result (texts_of texts.new ≡ texts_of texts.old ++ string_bytes text ∷ []) }
     ensures unchanged { OnErr result (texts_of texts.new ≡ texts_of texts.old) }
 {
-    let owned = String::from_str(alloc, text)?;
-    texts.insert(owned)?;
+    texts.insert(text)?;
     Ok(())
 }
 

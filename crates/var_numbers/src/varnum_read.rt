@@ -29,7 +29,7 @@ pub fn read_varnum<L>(
     ensures place { IfErr result (λ fault. (at ≤ fault.at) × (fault.at ≤ end)) }
     ensures cost { steps.new ≤ steps.old + passed at end result }
     ensures most { steps.new ≤ steps.old + (end - at) }
-    ensures later { steps.old < 2 ^ 64 → steps.old ≤ steps.new }
+    ensures later { steps.old ≤ steps.new }
 {
     let mut place = at;
     let mut number = 0;

@@ -101,7 +101,7 @@ groups-preserved g c =
       rw (next, c.from-in-groups.ensures) (reading-more range k c.groups.number c.groups.scale c.byte-byte.result c.groups.invariant.0 (omega arith) is (omega arith) odd early),
       omega arith,
       omega arith,
-      λ fits. omega (arith, c.groups.invariant.3 fits),
+      omega arith,
       omega arith,
     )
 

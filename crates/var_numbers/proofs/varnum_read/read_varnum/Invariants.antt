@@ -7,7 +7,7 @@ invariant-groups g l =
     Reading (slice_range l.tape l.at l.end) (l.place - l.at) l.number l.scale
     × (l.at ≤ l.place)
     × (l.place ≤ l.end)
-    × (l.fn.steps < 2 ^ 64 → l.fn.steps ≤ l.steps)
+    × (l.fn.steps ≤ l.steps)
     × (l.steps ≤ l.fn.steps + (l.place - l.at))
 
 abbrev pub decreases-groups : goal.decreases-groups

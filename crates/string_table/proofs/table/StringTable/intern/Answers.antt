@@ -1,11 +1,10 @@
-use Rattle.std.proofs.Common.{Some, sym, ap, ◌∙◌}
-use Rattle.string_table.specs.Entries.{place_in, place_of}
-use Rattle.string_table.specs.declared.entry.AddedName.{AddedName}
-use Rattle.string_table.proofs.Laws.{place_in-added}
+use Rattle.std.proofs.Common.{◌≡◌, Some, None, sym, ap, ◌∙◌}
+use Rattle.string_table.specs.Entries.{place_in}
+use Rattle.string_table.proofs.Laws.{place_in-push}
 use Rattle.string_table.proofs.table.StringTable.intern.Goals as goal
 
-pub returns-in-New-clause-place : goal.returns-in-New-clause-place
-returns-in-New-clause-place c =
-    ap (λ (a : AddedName). Some (place_of a)) (sym c.in-New.is ∙ c.in_ok-name.ensures.answer)
-    ∙ sym (place_in-added c.args.self.now (Some c.args.text.now))
-    ∙ ap (λ entries. place_in entries (Some c.args.text.now)) (sym c.in_ok-name.ensures.entries)
+pub returns-in_ok-push_text-in-None-clause-place : goal.returns-in_ok-push_text-in-None-clause-place
+returns-in_ok-push_text-in-None-clause-place c =
+    let none : place_in c.args.self.now (Some c.args.text.now) ≡ None = sym c.in-None.ensures
+    in rw (c.in_ok-push_text-in-None.ensures.entries, c.in_ok-from_str-in-None.ensures.ok)
+    (ap Some c.len-place.ensures.count ∙ sym (place_in-push c.args.self.now (Some c.args.text.now) none))
