@@ -1,5 +1,5 @@
 -- What holds of a list of kinds that stand in it once.
-use Rattle.std.proofs.Common.{ℕ, List, [], ◌∷◌, ◌++◌, ◌≡◌, ◌<◌, ◌≤◌, ◌+◌, Bool, true, false, refl, ap, sym, ◌∙◌, Option, None, Some, cond, eqb, ◌||◌, zero, suc, arith, map, length, rules}
+use Rattle.std.proofs.Common.{ℕ, List, [], ◌∷◌, ◌++◌, ◌≡◌, ◌<◌, ◌≤◌, ◌+◌, Bool, true, false, refl, ap, sym, ◌∙◌, Option, None, Some, cond, eqb, ◌||◌, zero, suc, arith, map, length}
 use Rattle.std.specs.List.{slice_get, position_from, IsDistinct, AllByRecursion, list_any}
 use Rattle.std.proofs.lemmas.Bool.{eqb-true}
 use Rattle.std.proofs.lemmas.Map.Steps.{length-le_from_distinct_below}

@@ -1,9 +1,9 @@
 -- What a walk over a list of values says of the data that the list stands for.
-use Rattle.std.proofs.Common.{ℕ, List, [], ◌∷◌, ◌≡◌, ◌<◌, ◌+◌, Bool, true, refl, ap, sym, length, ◌==◌, false, Option, None, Some, cond, eqb, ◌&&◌, max, map, zero, suc, get_or, drop, arith, subst, drop-cons, add-one, ◌∙◌}
+use Rattle.std.proofs.Common.{ℕ, List, [], ◌∷◌, ◌≡◌, ◌<◌, ◌+◌, Bool, true, refl, ap, sym, length, ◌==◌, false, None, Some, ◌&&◌, zero, suc, get_or, drop, arith, drop-cons, add-one, ◌∙◌}
 use Rattle.std.specs.List.{list_all}
 use Rattle.bast_schema.specs.declared.kind.Union.{Union}
 use Rattle.bast_schema.specs.declared.kind.FieldType.{FieldType}
-use Rattle.bast_schema.specs.Tree.{Datum, Data, none, more, fits, fit, count, value_at, item_type, items_fit, is_none, depth_in, depth_at, first_wrong, weight_in, weight_at}
+use Rattle.bast_schema.specs.Tree.{Datum, Data, none, more, fits, fit, count, value_at, item_type, items_fit, is_none, first_wrong, weight_in, weight_at}
 use Rattle.bast_schema.specs.View.{datum, data_of}
 use Rattle.bast_schema.specs.declared.node.Value.{Value}
 
