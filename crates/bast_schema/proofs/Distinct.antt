@@ -1,11 +1,11 @@
 -- What holds of a list of kinds that stand in it once.
-use Rattle.std.proofs.Common.{ℕ, List, [], ◌∷◌, ◌++◌, ◌≡◌, ◌<◌, ◌≤◌, ◌+◌, Bool, true, false, refl, ap, sym, ◌∙◌, Option, None, Some, cond, eqb, ◌||◌, zero, suc, arith, map, length, rules}
+use Rattle.std.proofs.Common.{ℕ, List, [], ◌∷◌, ◌++◌, ◌≡◌, ◌<◌, ◌≤◌, ◌+◌, Bool, true, false, refl, ap, sym, ◌∙◌, Option, None, Some, cond, eqb, ◌||◌, zero, suc, arith, map, length}
 use Rattle.std.specs.List.{slice_get, position_from, IsDistinct, AllByRecursion, list_any}
 use Rattle.std.proofs.lemmas.Bool.{eqb-true}
 use Rattle.std.proofs.lemmas.Map.Steps.{length-le_from_distinct_below}
 use Rattle.bast_schema.specs.declared.kind.Kind.{Kind}
 use Rattle.bast_schema.specs.Kinds.{number, same_kind}
-use Rattle.bast_schema.specs.KindTable.{place_of, with_kind, joined_at}
+use Rattle.bast_schema.specs.KindTable.{place_of, with_kind, joined_at, added_of, answer_at, number_added}
 use Rattle.bast_schema.proofs.Places.{position_passes}
 use Rattle.bast_schema.proofs.EachKind.{number_less, same_kind_true, same_kind_self}
 
@@ -116,3 +116,19 @@ stays_with_kind ks k n j h = by_place (place_of ks k)
     by_place : (o : Option ℕ) → slice_get (joined_at ks k o) n ≡ Some j
     by_place (Some place) = h
     by_place None = stays_before ks k n j h
+
+-- a place stays the same while kinds are added
+pub place_stays : (ks : List Kind) (k j : Kind) (n : ℕ) → IsDistinct same_kind ks → place_of ks j ≡ Some n → place_of (with_kind ks k) j ≡ Some n
+place_stays ks k j n d h = place_of_at (with_kind ks k) j n (distinct_with_kind ks k d) (stays_with_kind ks k n j (kind_at_place ks j n h))
+
+-- the number that is answered is the place of the kind then
+pub place_added : (ks : List Kind) (k : Kind) → IsDistinct same_kind ks → place_of (with_kind ks k) k ≡ Some (number_added (added_of ks k))
+place_added ks k d = place_of_at (with_kind ks k) k (number_added (added_of ks k)) (distinct_with_kind ks k d) (by_place (place_of ks k) refl)
+  where
+    by_place : (o : Option ℕ) → place_of ks k ≡ o → slice_get (joined_at ks k o) (number_added (answer_at ks o)) ≡ Some k
+    by_place (Some n) e = kind_at_place ks k n e
+    by_place None e = at_end ks k
+
+-- a kind that has no place is not there
+pub absent_kind : (ks : List Kind) (k : Kind) (n : ℕ) → IsDistinct same_kind ks → place_of ks k ≡ None → slice_get ks n ≡ Some k → ⊥
+absent_kind ks k n d none there = let found : Some n ≡ None = sym (place_of_at ks k n d there) ∙ none in cc

@@ -1,5 +1,5 @@
 -- What the table of kinds says of names and numbers, entry by entry.
-use Rattle.std.proofs.Common.{ℕ, List, [], ◌∷◌, ◌≡◌, ◌<◌, ◌+◌, Bool, true, false, refl, ap, sym, ◌∙◌, Option, None, Some, cond, eqb, ◌&&◌, zero, suc, lit<, arith, length}
+use Rattle.std.proofs.Common.{ℕ, List, [], ◌∷◌, ◌≡◌, ◌<◌, ◌+◌, Bool, true, refl, ap, sym, ◌∙◌, Some, eqb, ◌&&◌, zero, suc, lit<, arith, length, not, ◌||◌, take, codes}
 use Rattle.std.specs.List.{slice_get}
 use Rattle.std.specs.Str.{bytes_eq}
 use Rattle.std.proofs.lemmas.Bool.{eqb-true}
@@ -7,7 +7,7 @@ use Rattle.std.proofs.lemmas.Bool.Decides.{nat_tests}
 use Rattle.std.proofs.lemmas.Slice.Eq.{bytes_eq-Decides}
 use Rattle.bast_schema.specs.declared.kind.Kind.{Kind}
 use Rattle.bast_schema.specs.declared.kind.Kind.TheVariants.{Null, Script, AssertedScriptGlobalScope, AssertedVarScope, AssertedBlockScope, AssertedParameterScope, AssertedBoundNamesScope, AssertedDeclaredName, AssertedPositionalParameterName, AssertedRestParameterName, AssertedBoundName, Directive, BindingIdentifier, BindingWithInitializer, FormalParameters, FunctionContents, GetterContents, SetterContents, EagerFunctionDeclaration, LazyFunctionDeclaration, EagerMethod, LazyMethod, EagerGetter, LazyGetter, EagerSetter, LazySetter, LiteralPropertyName, ComputedPropertyName, DataProperty, ShorthandProperty, SpreadElement, TemplatePart, VariableDeclarator, ForInOfBinding, CatchClause, SwitchCase, SwitchDefault, Block, VarDeclaration, LexicalDeclaration, ExpressionStatement, EmptyStatement, DebuggerStatement, IfStatement, ForStatement, ForInStatement, ForOfStatement, WhileStatement, DoWhileStatement, ReturnStatement, BreakStatement, ContinueStatement, ThrowStatement, TryCatchStatement, TryFinallyStatement, SwitchStatement, SwitchStatementWithDefault, LabelledStatement, ThisExpression, LiteralNullExpression, LiteralBooleanExpression, LiteralNumericExpression, LiteralStringExpression, IdentifierExpression, TemplateExpression, ArrayExpression, ObjectExpression, EagerFunctionExpression, LazyFunctionExpression, EagerArrowExpressionWithFunctionBody, EagerArrowExpressionWithExpression, StaticMemberExpression, ComputedMemberExpression, CallExpression, NewExpression, UnaryExpression, UpdateExpression, BinaryExpression, AssignmentExpression, CompoundAssignmentExpression, ConditionalExpression, SequenceExpression}
-use Rattle.bast_schema.specs.Kinds.{kind_name, kinds, number, same_kind, kind_of_name}
+use Rattle.bast_schema.specs.Kinds.{kind_name, kinds, number, same_kind, kind_of_name, counted}
 use Rattle.bast_schema.specs.Fields.{fields, field_names}
 use Rattle.bast_schema.proofs.Both.{and_first, and_second}
 use Rattle.bast_schema.proofs.Places.{found_passes}
@@ -476,3 +476,88 @@ fields_few AssignmentExpression = lit< tt
 fields_few CompoundAssignmentExpression = lit< tt
 fields_few ConditionalExpression = lit< tt
 fields_few SequenceExpression = lit< tt
+
+-- the kinds that do not count are that of an absent node and those of scopes and what they declare
+pub counted_by_name : (k : Kind) → counted k ≡ not (bytes_eq (kind_name k) (codes "_Null") || bytes_eq (take 8 (kind_name k)) (codes "Asserted"))
+counted_by_name Null = refl
+counted_by_name Script = refl
+counted_by_name AssertedScriptGlobalScope = refl
+counted_by_name AssertedVarScope = refl
+counted_by_name AssertedBlockScope = refl
+counted_by_name AssertedParameterScope = refl
+counted_by_name AssertedBoundNamesScope = refl
+counted_by_name AssertedDeclaredName = refl
+counted_by_name AssertedPositionalParameterName = refl
+counted_by_name AssertedRestParameterName = refl
+counted_by_name AssertedBoundName = refl
+counted_by_name Directive = refl
+counted_by_name BindingIdentifier = refl
+counted_by_name BindingWithInitializer = refl
+counted_by_name FormalParameters = refl
+counted_by_name FunctionContents = refl
+counted_by_name GetterContents = refl
+counted_by_name SetterContents = refl
+counted_by_name EagerFunctionDeclaration = refl
+counted_by_name LazyFunctionDeclaration = refl
+counted_by_name EagerMethod = refl
+counted_by_name LazyMethod = refl
+counted_by_name EagerGetter = refl
+counted_by_name LazyGetter = refl
+counted_by_name EagerSetter = refl
+counted_by_name LazySetter = refl
+counted_by_name LiteralPropertyName = refl
+counted_by_name ComputedPropertyName = refl
+counted_by_name DataProperty = refl
+counted_by_name ShorthandProperty = refl
+counted_by_name SpreadElement = refl
+counted_by_name TemplatePart = refl
+counted_by_name VariableDeclarator = refl
+counted_by_name ForInOfBinding = refl
+counted_by_name CatchClause = refl
+counted_by_name SwitchCase = refl
+counted_by_name SwitchDefault = refl
+counted_by_name Block = refl
+counted_by_name VarDeclaration = refl
+counted_by_name LexicalDeclaration = refl
+counted_by_name ExpressionStatement = refl
+counted_by_name EmptyStatement = refl
+counted_by_name DebuggerStatement = refl
+counted_by_name IfStatement = refl
+counted_by_name ForStatement = refl
+counted_by_name ForInStatement = refl
+counted_by_name ForOfStatement = refl
+counted_by_name WhileStatement = refl
+counted_by_name DoWhileStatement = refl
+counted_by_name ReturnStatement = refl
+counted_by_name BreakStatement = refl
+counted_by_name ContinueStatement = refl
+counted_by_name ThrowStatement = refl
+counted_by_name TryCatchStatement = refl
+counted_by_name TryFinallyStatement = refl
+counted_by_name SwitchStatement = refl
+counted_by_name SwitchStatementWithDefault = refl
+counted_by_name LabelledStatement = refl
+counted_by_name ThisExpression = refl
+counted_by_name LiteralNullExpression = refl
+counted_by_name LiteralBooleanExpression = refl
+counted_by_name LiteralNumericExpression = refl
+counted_by_name LiteralStringExpression = refl
+counted_by_name IdentifierExpression = refl
+counted_by_name TemplateExpression = refl
+counted_by_name ArrayExpression = refl
+counted_by_name ObjectExpression = refl
+counted_by_name EagerFunctionExpression = refl
+counted_by_name LazyFunctionExpression = refl
+counted_by_name EagerArrowExpressionWithFunctionBody = refl
+counted_by_name EagerArrowExpressionWithExpression = refl
+counted_by_name StaticMemberExpression = refl
+counted_by_name ComputedMemberExpression = refl
+counted_by_name CallExpression = refl
+counted_by_name NewExpression = refl
+counted_by_name UnaryExpression = refl
+counted_by_name UpdateExpression = refl
+counted_by_name BinaryExpression = refl
+counted_by_name AssignmentExpression = refl
+counted_by_name CompoundAssignmentExpression = refl
+counted_by_name ConditionalExpression = refl
+counted_by_name SequenceExpression = refl

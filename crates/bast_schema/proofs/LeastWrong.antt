@@ -1,5 +1,5 @@
 -- The place that is told is the least wrong one.
-use Rattle.std.proofs.Common.{ℕ, List, [], ◌∷◌, ◌≡◌, ◌<◌, ◌≤◌, ◌+◌, Bool, true, false, not, refl, ap, ◌∙◌, Option, None, Some, zero, suc, arith, if◌then◌else◌}
+use Rattle.std.proofs.Common.{ℕ, List, [], ◌∷◌, ◌≡◌, ◌<◌, ◌≤◌, ◌+◌, Bool, true, false, not, refl, ap, ◌∙◌, None, Some, zero, suc, arith, if◌then◌else◌}
 use Rattle.bast_schema.specs.declared.kind.FieldType.{FieldType}
 use Rattle.bast_schema.specs.Tree.{Datum, Data, none, more, fits, first_wrong}
 use Rattle.bast_schema.specs.Wrong.{wrong_at}

@@ -1,11 +1,12 @@
 -- What a walk over a list of values says of the data that the list stands for.
-use Rattle.std.proofs.Common.{ℕ, List, [], ◌∷◌, ◌≡◌, ◌<◌, ◌+◌, Bool, true, refl, ap, sym, length, ◌==◌, false, Option, None, Some, cond, eqb, ◌&&◌, max, map, zero, suc, get_or, drop, arith, subst, drop-cons, add-one, ◌∙◌}
+use Rattle.std.proofs.Common.{ℕ, List, [], ◌∷◌, ◌≡◌, ◌<◌, ◌+◌, Bool, true, refl, ap, sym, length, ◌==◌, false, None, Some, ◌&&◌, zero, suc, get_or, drop, arith, drop-cons, add-one, ◌∙◌}
 use Rattle.std.specs.List.{list_all}
 use Rattle.bast_schema.specs.declared.kind.Union.{Union}
 use Rattle.bast_schema.specs.declared.kind.FieldType.{FieldType}
-use Rattle.bast_schema.specs.Tree.{Datum, Data, none, more, fits, fit, count, value_at, item_type, items_fit, is_none, depth_in, depth_at, first_wrong, weight_in, weight_at}
+use Rattle.bast_schema.specs.Tree.{Datum, Data, none, more, fits, fit, count, value_at, item_type, items_fit, is_none, first_wrong, weight_in, weight_at}
 use Rattle.bast_schema.specs.View.{datum, data_of}
 use Rattle.bast_schema.specs.declared.node.Value.{Value}
+use Rattle.bast_schema.proofs.Both.{and_second}
 
 pub items_fit_data_of : (u : Union) (holes : Bool) (vs : List Value) → items_fit u holes (data_of vs) ≡ list_all (λ v. fits (item_type u holes) (datum v)) vs
 items_fit_data_of u holes [] = refl
@@ -63,10 +64,6 @@ fit_where_none_wrong i [] none e = refl
 fit_where_none_wrong i [] (more d ds) e = cc
 fit_where_none_wrong i (t ∷ ts) none e = cc
 fit_where_none_wrong i (t ∷ ts) (more d ds) e = fit_more i t ts d ds (fits t d) refl e (fit_where_none_wrong (i + 1) ts ds)
-
-and_second : (a b : Bool) → (a && b) ≡ true → b ≡ true
-and_second true b e = e
-and_second false b e = cc
 
 pub count_data_of : (vs : List Value) → count (data_of vs) ≡ length vs
 count_data_of [] = refl

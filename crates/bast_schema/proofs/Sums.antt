@@ -1,5 +1,5 @@
 -- How counts over a list of values go along a walk over it.
-use Rattle.std.proofs.Common.{ℕ, List, [], ◌∷◌, ◌++◌, ◌≡◌, ◌<◌, ◌≤◌, ◌+◌, Bool, ◌&&◌, true, false, refl, ap, sym, ◌∙◌, Option, Some, max, zero, suc, get_or, drop, length, arith}
+use Rattle.std.proofs.Common.{ℕ, List, [], ◌∷◌, ◌++◌, ◌≡◌, ◌<◌, ◌≤◌, ◌+◌, refl, ap, Some, max, zero, suc, get_or, drop, length, arith}
 use Rattle.bast_schema.specs.declared.node.Value.{Value}
 use Rattle.bast_schema.specs.Tree.{Tree, branch, Datum, child, absent, listed, flag, index, whole, name, no_name, choice, window, Data, none, more, count, value_at, nodes, nodes_at, nodes_in, depth_at, depth_in, weight_at, weight_in}
 use Rattle.bast_schema.specs.Counts.{size, size_at, size_in, join}

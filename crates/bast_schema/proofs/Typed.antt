@@ -1,5 +1,5 @@
 -- What a tree that is well typed says of its values.
-use Rattle.std.proofs.Common.{ℕ, List, [], ◌∷◌, ◌≡◌, ◌<◌, ◌≤◌, ◌+◌, Bool, true, false, refl, ap, sym, ◌∙◌, Option, None, Some, Result, Ok, Err, cond, ◌&&◌, ◌||◌, zero, suc, arith, drop, length, nat_lt, if◌then◌else◌}
+use Rattle.std.proofs.Common.{ℕ, List, [], ◌∷◌, ◌≡◌, ◌<◌, ◌≤◌, ◌+◌, Bool, true, false, refl, ap, ◌∙◌, None, Some, Ok, Err, ◌||◌, zero, suc, arith, drop, nat_lt, if◌then◌else◌}
 use Rattle.std.specs.List.{slice_get}
 use Rattle.std.proofs.lemmas.Bool.Decides.{nat_tests}
 use Rattle.bast_schema.specs.declared.kind.Kind.{Kind}
@@ -7,18 +7,16 @@ use Rattle.bast_schema.specs.declared.kind.Union.{Union}
 use Rattle.bast_schema.specs.declared.kind.Union.TheVariants.{One}
 use Rattle.bast_schema.specs.declared.kind.FieldType.{FieldType}
 use Rattle.bast_schema.specs.declared.kind.FieldType.TheVariants as field
-use Rattle.bast_schema.specs.declared.node.NodeFault.{NodeFault}
-use Rattle.bast_schema.specs.declared.node.NodeFault.TheVariants.{Mistyped, TooDeep}
+use Rattle.bast_schema.specs.declared.node.NodeFault.TheVariants.{TooDeep}
 use Rattle.bast_schema.specs.declared.node.Value.{Value}
 use Rattle.bast_schema.specs.Fields.{fields}
 use Rattle.bast_schema.specs.Kinds.{same_kind}
 use Rattle.bast_schema.specs.Unions.{allowed}
-use Rattle.bast_schema.specs.Made.{node_of, node_or, limited}
+use Rattle.bast_schema.specs.Made.{node_of, node_or}
 use Rattle.bast_schema.specs.Tree.{Tree, branch, Datum, child, Data, none, more, kind_of, typed, fits, fit, count, value_at, item_type, items_fit, first_wrong, depth}
 use Rattle.bast_schema.specs.View.{datum, data_of}
 use Rattle.bast_schema.proofs.Both.{and_first, and_second}
 use Rattle.bast_schema.proofs.EachKind.{same_kind_true}
-use Rattle.bast_schema.proofs.Lists.{fit_where_none_wrong}
 
 -- a place that has a value is below the count, and a place below it has one
 pub value_within : (ds : Data) (i : ℕ) (d : Datum) → value_at ds i ≡ Some d → i < count ds

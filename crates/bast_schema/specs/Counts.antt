@@ -1,6 +1,6 @@
 -- How large a tree is, whether it is whole, and lists of values one after the other.
 use Rattle.std.specs.Prelude.{ℕ, Bool, true, false, ◌+◌, ◌&&◌}
-use Rattle.bast_schema.specs.Tree.{Tree, branch, Datum, child, absent, listed, flag, index, whole, name, no_name, choice, window, Data, none, more}
+use Rattle.bast_schema.specs.Tree.{Tree, branch, Datum, child, listed, window, Data, none, more}
 
 -- the number of values, the root and every node among them
 abbrev mutual

@@ -1,8 +1,8 @@
 -- The parts of a list of values weigh less than the list.
-use Rattle.std.specs.Prelude.{ℕ, List, [], ◌∷◌, ◌≤◌, ◌+◌}
+use Rattle.std.specs.Prelude.{List, [], ◌∷◌, ◌≤◌, ◌+◌}
 use Rattle.std.proofs.Common.{arith}
 use denote.Param.Weighed.{most}
-use Rattle.bast_schema.specs.Tree.{Data, Datum, weight_in, weight_at}
+use Rattle.bast_schema.specs.Tree.{weight_in, weight_at}
 use Rattle.bast_schema.specs.View.{data_of, datum}
 use Rattle.bast_schema.specs.declared.node.Value.{Value}
 use Rattle.bast_schema.specs.declared.node.Value.TheVariants as value

@@ -25,3 +25,7 @@ added_of ks k = answer_at ks (place_of ks k)
 -- these kinds, and that one at the end unless it is there
 abbrev pub with_kind : List Kind → Kind → List Kind
 with_kind ks k = joined_at ks k (place_of ks k)
+
+abbrev pub number_added : Added → ℕ
+number_added (New n) = n
+number_added (There n) = n

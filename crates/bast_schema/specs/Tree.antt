@@ -1,5 +1,5 @@
 -- A tree is a kind and a list of values.
-use Rattle.std.specs.Prelude.{ℕ, Bool, true, false, List, [], ◌∷◌, ◌++◌, ◌+◌, ◌<◌, ◌&&◌, ◌||◌, max, not, nat_lt, cond, suc, zero, length, ◌^◌, if◌then◌else◌, Option, None, Some}
+use Rattle.std.specs.Prelude.{ℕ, Bool, true, false, List, [], ◌∷◌, ◌+◌, ◌&&◌, ◌||◌, max, not, nat_lt, suc, zero, length, ◌^◌, if◌then◌else◌, Option, None, Some}
 use Rattle.bast_schema.specs.declared.kind.Kind.{Kind}
 use Rattle.bast_schema.specs.declared.kind.Union.{Union}
 use Rattle.bast_schema.specs.declared.kind.FieldType.{FieldType}

@@ -2,7 +2,7 @@
 use Rattle.std.specs.Prelude.{Bool, List, [], ◌∷◌, ◌++◌}
 use Rattle.std.specs.List.{list_any}
 use Rattle.bast_schema.specs.declared.kind.Kind.{Kind}
-use Rattle.bast_schema.specs.declared.kind.Kind.TheVariants.{Null, Script, AssertedScriptGlobalScope, AssertedVarScope, AssertedBlockScope, AssertedParameterScope, AssertedBoundNamesScope, AssertedDeclaredName, AssertedPositionalParameterName, AssertedRestParameterName, AssertedBoundName, Directive, BindingIdentifier, BindingWithInitializer, FormalParameters, FunctionContents, GetterContents, SetterContents, EagerFunctionDeclaration, LazyFunctionDeclaration, EagerMethod, LazyMethod, EagerGetter, LazyGetter, EagerSetter, LazySetter, LiteralPropertyName, ComputedPropertyName, DataProperty, ShorthandProperty, SpreadElement, TemplatePart, VariableDeclarator, ForInOfBinding, CatchClause, SwitchCase, SwitchDefault, Block, VarDeclaration, LexicalDeclaration, ExpressionStatement, EmptyStatement, DebuggerStatement, IfStatement, ForStatement, ForInStatement, ForOfStatement, WhileStatement, DoWhileStatement, ReturnStatement, BreakStatement, ContinueStatement, ThrowStatement, TryCatchStatement, TryFinallyStatement, SwitchStatement, SwitchStatementWithDefault, LabelledStatement, ThisExpression, LiteralNullExpression, LiteralBooleanExpression, LiteralNumericExpression, LiteralStringExpression, IdentifierExpression, TemplateExpression, ArrayExpression, ObjectExpression, EagerFunctionExpression, LazyFunctionExpression, EagerArrowExpressionWithFunctionBody, EagerArrowExpressionWithExpression, StaticMemberExpression, ComputedMemberExpression, CallExpression, NewExpression, UnaryExpression, UpdateExpression, BinaryExpression, AssignmentExpression, CompoundAssignmentExpression, ConditionalExpression, SequenceExpression}
+use Rattle.bast_schema.specs.declared.kind.Kind.TheVariants.{AssertedPositionalParameterName, AssertedRestParameterName, BindingIdentifier, BindingWithInitializer, EagerFunctionDeclaration, LazyFunctionDeclaration, EagerMethod, LazyMethod, EagerGetter, LazyGetter, EagerSetter, LazySetter, LiteralPropertyName, ComputedPropertyName, DataProperty, ShorthandProperty, SpreadElement, ForInOfBinding, Block, VarDeclaration, LexicalDeclaration, ExpressionStatement, EmptyStatement, DebuggerStatement, IfStatement, ForStatement, ForInStatement, ForOfStatement, WhileStatement, DoWhileStatement, ReturnStatement, BreakStatement, ContinueStatement, ThrowStatement, TryCatchStatement, TryFinallyStatement, SwitchStatement, SwitchStatementWithDefault, LabelledStatement, ThisExpression, LiteralNullExpression, LiteralBooleanExpression, LiteralNumericExpression, LiteralStringExpression, IdentifierExpression, TemplateExpression, ArrayExpression, ObjectExpression, EagerFunctionExpression, LazyFunctionExpression, EagerArrowExpressionWithFunctionBody, EagerArrowExpressionWithExpression, StaticMemberExpression, ComputedMemberExpression, CallExpression, NewExpression, UnaryExpression, UpdateExpression, BinaryExpression, AssignmentExpression, CompoundAssignmentExpression, ConditionalExpression, SequenceExpression}
 use Rattle.bast_schema.specs.declared.kind.Union.{Union}
 use Rattle.bast_schema.specs.declared.kind.Union.TheVariants.{Body, Statement, Expression, Parameter, ParameterName, PropertyName, ObjectProperty, Argument, ForInit, ForTarget, One}
 use Rattle.bast_schema.specs.Kinds.{same_kind}

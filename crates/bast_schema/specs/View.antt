@@ -1,5 +1,5 @@
 -- The tree that a node stands for.
-use Rattle.std.specs.Prelude.{ℕ, List, [], ◌∷◌, map, ◌≡◌, IsTrue, ◌≤◌}
+use Rattle.std.specs.Prelude.{List, [], ◌∷◌, ◌≡◌, IsTrue, ◌≤◌}
 use Rattle.bast_schema.specs.Tree.{Tree, branch, Datum, child, absent, listed, flag, index, whole, name, no_name, choice, window, Data, none, more, typed, depth}
 use Rattle.bast_schema.specs.declared.node.Node.TheInside.{Inside}
 use Rattle.bast_schema.specs.declared.node.Values.TheInside as values

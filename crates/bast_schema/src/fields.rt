@@ -3,9 +3,9 @@ ghost use Rattle.bast_schema.specs.Fields.{fields, field_names, has_lazy};
 
 use crate::kind::{EnumId, FieldType, Kind, Union};
 
-// The two tables below are the attributes of the node interfaces of the Binary AST proposal, in the proposal's order, with
-// those interfaces left out that no syntax read here stands for. Texts, names and labels are strings there; a number is
-// whole and below 2^53, and a function's contents are lazy in the `Lazy` kinds.
+// The two tables below are a profile of this repository's own, after the attributes of the node interfaces of the Binary
+// AST proposal. Numbers are whole and below 2^53, a template is its head and its parts, and the contents of a function
+// are lazy in the `Lazy` kinds.
 
 /// The types of the fields of a kind, in order.
 pub fn fields_of(kind: Kind) -> &'static [FieldType]
@@ -536,7 +536,7 @@ pub(crate) fn field_names_of(kind: Kind) -> &'static [&'static str]
     }
 }
 
-/// The name of a field of a kind, as the proposal's interface has it.
+/// The name of a field of a kind, by the field's number.
 pub fn field_name(kind: Kind, field: u32) -> &'static str
     requires { field < length (fields kind) }
     ensures { slice_get (field_names kind) field ≡ Some result.now }

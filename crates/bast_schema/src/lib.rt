@@ -1,8 +1,8 @@
 //! The kinds of node with their fields, and well-typed trees of them.
 //!
-//! The kinds, their fields and the sets of texts are those of the node interfaces of the Binary AST proposal, as far as
-//! they stand for the syntax of ECMA-262, 6th edition, that is read and written here. Fields, choices, kinds and places
-//! are numbered from 0.
+//! The kinds, their fields and the sets of texts follow the node interfaces of the Binary AST proposal, in a profile of
+//! this repository's own for the syntax of ECMA-262, 6th edition, that it reads and writes. Fields, choices and kinds are
+//! numbered from 0.
 #![tactic(auto)]
 
 mod choices;

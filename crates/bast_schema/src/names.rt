@@ -3,7 +3,7 @@ ghost use Rattle.bast_schema.specs.Kinds.{kind_name, number, kinds, kind_of_name
 
 use crate::kind::Kind;
 
-/// The name of a kind in a file: that of its interface, and `_Null` for the kind of an absent node.
+/// The name of a kind, as files spell it: that of the variant, and `_Null` for `Null`.
 pub fn name_of(kind: Kind) -> &'static str
     ensures { result.now ≡ kind_name kind }
 {

@@ -13,6 +13,9 @@ use crate::unions::allows;
 use bast_base::{Memory, NameId};
 use std::marker::Model;
 
+/// The depth that no node passes.
+const DEPTH_LIMIT: u32 = 512;
+
 /// What stands in a field of a node.
 #[cycle(tree)]
 #[derive(Drop)]
@@ -104,7 +107,7 @@ impl Node {
             return Err(NodeFault::Mistyped { field });
         }
         let depth = u32::from(is_counted(kind)) + deepest(&fields);
-        if depth > 512 {
+        if depth > DEPTH_LIMIT {
             return Err(NodeFault::TooDeep);
         }
         Ok(Node {

@@ -105,6 +105,19 @@ fn a_table_holds_each_kind_once(rt: HostRuntime) -> Result<(), Fail> {
     Ok(())
 }
 
+#[test]
+fn a_node_gives_its_values(rt: HostRuntime) -> Result<(), Fail> {
+    let alloc = rt.alloc();
+    let label = Node::new(Kind::BreakStatement, vec![in alloc; Value::NoName]?)?;
+    assert!(rt; matches!(label.field(0), Value::NoName));
+    let (kind, values) = label.parts();
+    assert_eq!(rt; kind, Kind::BreakStatement);
+    let list = Values::of(values);
+    assert!(rt; !list.is_empty());
+    assert_eq!(rt; list.into_vec().len(), 1);
+    Ok(())
+}
+
 /// Whether a kind has a name for each field, none of them empty.
 fn has_names(kind: Kind) -> bool {
     let names = field_names_of(kind);

@@ -6,7 +6,7 @@ ghost use Rattle.bast_schema.specs.Unions.{allowed, bodies, expressions};
 use crate::kind::{Kind, Union};
 use crate::names::number_of;
 
-/// Whether a kind is in a union, as the unions of the Binary AST proposal's interfaces have it.
+/// Whether a kind is in a union.
 pub fn allows(union: Union, kind: Kind) -> bool
     ensures { result ≡ allowed union kind }
 {

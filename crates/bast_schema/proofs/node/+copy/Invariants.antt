@@ -1,4 +1,4 @@
-use Rattle.std.proofs.Common.{◌≡◌, ℕ, take}
+use Rattle.std.proofs.Common.{◌≡◌, take}
 use Rattle.bast_schema.specs.Tree.{weight, weight_in, weight_at}
 use Rattle.bast_schema.specs.View.{datum}
 use Rattle.bast_schema.proofs.node.+copy.Given as goal

@@ -1,4 +1,4 @@
-use Rattle.std.proofs.Common.{◌≡◌, ℕ, drop, max, ◌≤◌}
+use Rattle.std.proofs.Common.{◌≡◌, drop, max, ◌≤◌}
 use Rattle.bast_schema.specs.Tree.{depth_in, weight_in, weight_at}
 use Rattle.bast_schema.specs.View.{datum, data_of}
 use Rattle.bast_schema.proofs.node.+depth.Given as goal

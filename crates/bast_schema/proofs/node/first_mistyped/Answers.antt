@@ -1,5 +1,5 @@
 use Rattle.std.proofs.Common.{arith, sym, ◌∙◌, ◌≡◌, ap, Some, length}
-use Rattle.bast_schema.proofs.Lists.{wrong_missing, wrong_here, wrong_many}
+use Rattle.bast_schema.proofs.Lists.{wrong_missing, wrong_many}
 use Rattle.bast_schema.proofs.node.first_mistyped.Goals as goal
 
 pub returns-then-at-values : goal.returns-then-at-values

@@ -1,6 +1,6 @@
-use Rattle.std.proofs.Common.{◌≡◌, ℕ, drop, ◌≤◌, length}
+use Rattle.std.proofs.Common.{◌≡◌, drop, ◌≤◌, length}
 use Rattle.bast_schema.specs.Tree.{first_wrong}
-use Rattle.bast_schema.specs.View.{datum, data_of}
+use Rattle.bast_schema.specs.View.{data_of}
 use Rattle.bast_schema.proofs.node.first_mistyped.Given as goal
 
 abbrev pub invariant-loop-at : goal.invariant-loop-at

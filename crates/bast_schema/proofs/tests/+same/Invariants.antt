@@ -1,4 +1,4 @@
-use Rattle.std.proofs.Common.{ℕ, ◌+◌, ◌*◌}
+use Rattle.std.proofs.Common.{◌+◌, ◌*◌}
 use Rattle.bast_schema.proofs.tests.+same.Given as goal
 
 abbrev pub decreases-are_same : goal.decreases-are_same

@@ -1,4 +1,4 @@
-use Rattle.std.proofs.Common.{◌≡◌, ◌≤◌, arith, length}
+use Rattle.std.proofs.Common.{◌≤◌, arith, length}
 use Rattle.bast_schema.proofs.Distinct.{few_kinds}
 use Rattle.bast_schema.proofs.table.KindTable.len.Goals as goal
 

@@ -1,4 +1,4 @@
-use Rattle.std.proofs.Common.{rules, ◌≡◌, subst, sym}
+use Rattle.std.proofs.Common.{subst, sym}
 use Rattle.std.specs.List.{IsDistinct}
 use Rattle.bast_schema.specs.Kinds.{same_kind}
 use Rattle.bast_schema.proofs.Distinct.{distinct_none}
