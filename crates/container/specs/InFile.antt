@@ -7,30 +7,16 @@ use Rattle.bast_schema.specs.declared.kind.Kind.TheVariants.{Script}
 use Rattle.bast_schema.specs.declared.kind.FieldType.{FieldType}
 use Rattle.bast_schema.specs.declared.kind.FieldType.TheVariants as field
 use Rattle.bast_schema.specs.declared.kind.Union.TheVariants.{Body}
+use Rattle.bast_schema.specs.Counts.{is_whole}
 use Rattle.bast_schema.specs.Fields.{fields, has_lazy}
 use Rattle.bast_schema.specs.Held.{Held}
 use Rattle.bast_schema.specs.Kinds.{same_kind}
-use Rattle.bast_schema.specs.Tree.{Tree, Datum, Data, branch, none, more, child, listed, window, kind_of, typed, depth}
+use Rattle.bast_schema.specs.Tree.{Tree, Datum, Data, branch, none, more, child, listed, kind_of, typed, depth}
 use Rattle.string_table.specs.Entries.{AreDistinct, is_same}
 use Rattle.container.specs.Atoms.{Atom, kind, text, atoms}
 use Rattle.container.specs.Container.{container}
 use Rattle.container.specs.Spelled.{spelled}
 use Rattle.container.specs.Tables.{Tables}
-
--- whether there is no window
-abbrev mutual
-  pub is_whole : Tree → Bool
-  is_whole (branch k ds) = are_whole ds
-
-  pub is_whole_at : Datum → Bool
-  is_whole_at (child t) = is_whole t
-  is_whole_at (listed ds) = are_whole ds
-  is_whole_at (window from to) = false
-  is_whole_at _ = true
-
-  pub are_whole : Data → Bool
-  are_whole none = true
-  are_whole (more d ds) = is_whole_at d && are_whole ds
 
 -- whether no node has a lazy kind
 abbrev mutual
