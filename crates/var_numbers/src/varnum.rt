@@ -3,7 +3,7 @@ ghost use Rattle.var_numbers.specs.Varnum.{varnum};
 
 use bast_base::Memory;
 
-/// Adds the spelling of a number at the end, as the proposal's container has it: seven bits to a byte, the least group
+/// Adds the spelling of a number at the end, as a file has it: seven bits to a byte, the least group
 /// first, where bit 0 says that another byte follows.
 #[tactic(auto, using(crate::proofs::VarnumLemmas::spellings))]
 pub fn put_varnum(into: &mut Vec<u8>, number: u32) -> Result<(), Memory>

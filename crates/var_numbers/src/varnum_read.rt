@@ -11,7 +11,7 @@ const FIFTH: u32 = 4;
 // The largest fifth byte: with it the number is just below 2^32.
 const LARGEST_FIFTH: u8 = 0x1E;
 
-/// Reads a number and the place behind it, from its spelling in the proposal's container: seven bits to a byte, the
+/// Reads a number and the place behind it, from its spelling in a file: seven bits to a byte, the
 /// least group first, where bit 0 says that another byte follows. Places are bytes from the tape's start.
 /// It is `Ended` where the range ends within a spelling, `TooBig` at a fifth byte that goes on or makes 2^32 or more,
 /// and `Overlong` at a last byte that adds nothing.
