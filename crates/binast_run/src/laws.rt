@@ -4,5 +4,4 @@ ghost use Rattle.binast_run.specs.Laws.{FilesOfFirstSourcesAreInGrammar};
 /// The file of a first source is in the grammar of files, and spells that source's tree.
 pub fn files_of_first_sources_are_in_grammar()
     ensures { FilesOfFirstSourcesAreInGrammar }
-{
-}
+{}

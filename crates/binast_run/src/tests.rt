@@ -4,7 +4,8 @@ use std::alloc::{AllocError, Global};
 use std::test::Fail;
 
 // The file of `1;`, but for the eight bytes of its number at the end.
-const FRONT: &[u8] = b"BINJS\x02[GRAMMAR]identity;\x9E\x08\x0CScript\x32AssertedScriptGlobalScope\x26ExpressionStatement\x30LiteralNumericExpression[STRINGS]identity;\x02\x00[TREE]identity;\x20\x00\x00\x02\x00\x00\x02\x04\x06";
+const FRONT: &[u8] =
+    b"BINJS\x02[GRAMMAR]identity;\x9E\x08\x0CScript\x32AssertedScriptGlobalScope\x26ExpressionStatement\x30LiteralNumericExpression[STRINGS]identity;\x02\x00[TREE]identity;\x20\x00\x00\x02\x00\x00\x02\x04\x06";
 
 // What a run left: its status, what the sink has, and what notes has.
 #[derive(Drop)]
@@ -73,7 +74,17 @@ fn encodes_whole_numbers(rt: HostRuntime) -> Result<(), Fail> {
 #[test]
 fn refuses_other_sources(rt: HostRuntime) -> Result<(), Fail> {
     let alloc = rt.alloc();
-    for text in ["1.5;", "01;", "1", "9007199254740992;", "", ";", "1;;", "a;", " 1;"] {
+    for text in [
+        "1.5;",
+        "01;",
+        "1",
+        "9007199254740992;",
+        "",
+        ";",
+        "1;;",
+        "a;",
+        " 1;",
+    ] {
         let refused = run_whole(alloc, "encode eager", text.as_bytes())?;
         assert_eq!(rt; refused.status, 1);
         assert_eq!(rt; refused.notes.written(), b"source: NotYet\n".as_slice());
@@ -85,10 +96,20 @@ fn refuses_other_sources(rt: HostRuntime) -> Result<(), Fail> {
 #[test]
 fn understands_no_other_words(rt: HostRuntime) -> Result<(), Fail> {
     let alloc = rt.alloc();
-    for words in ["", "encode", "encode eage", "encode eager eager", "eager encode", "decode"] {
+    for words in [
+        "",
+        "encode",
+        "encode eage",
+        "encode eager eager",
+        "eager encode",
+        "decode",
+    ] {
         let refused = run_whole(alloc, words, b"1;")?;
         assert_eq!(rt; refused.status, 2);
-        assert_eq!(rt; refused.notes.written(), b"words not understood\n".as_slice());
+        assert_eq!(rt;
+            refused.notes.written(),
+            b"words not understood\n".as_slice()
+        );
         assert_eq!(rt; refused.sink.written().len(), 0);
     }
     Ok(())
@@ -97,10 +118,22 @@ fn understands_no_other_words(rt: HostRuntime) -> Result<(), Fail> {
 #[test]
 fn tells_faults(rt: HostRuntime) -> Result<(), Fail> {
     let alloc = rt.alloc();
-    let unread = run_on(alloc, "encode eager", b"1;", vec![in alloc; 0]?, Vec::new(alloc))?;
+    let unread = run_on(
+        alloc,
+        "encode eager",
+        b"1;",
+        vec![in alloc; 0]?,
+        Vec::new(alloc),
+    )?;
     assert_eq!(rt; unread.status, 3);
     assert_eq!(rt; unread.notes.written(), b"reading failed\n".as_slice());
-    let cut = run_on(alloc, "encode eager", b"1;", Vec::new(alloc), vec![in alloc; 2]?)?;
+    let cut = run_on(
+        alloc,
+        "encode eager",
+        b"1;",
+        Vec::new(alloc),
+        vec![in alloc; 2]?,
+    )?;
     assert_eq!(rt; cut.status, 4);
     assert_eq!(rt; cut.sink.written().len(), 20);
     assert_eq!(rt; cut.notes.written(), b"writing failed\n".as_slice());

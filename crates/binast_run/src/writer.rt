@@ -54,11 +54,7 @@ fn add_kinds_of_items(values: &[Value], kinds: &mut KindTable) -> Result<(), Mem
 }
 
 #[cycle(kinds)]
-fn add_kinds_of_value(
-    wanted: FieldType,
-    value: &Value,
-    kinds: &mut KindTable,
-) -> Result<(), Memory>
+fn add_kinds_of_value(wanted: FieldType, value: &Value, kinds: &mut KindTable) -> Result<(), Memory>
     requires { AllPlain (atoms_of nothing wanted (datum value.now)) }
     ensures { OnOk result (with_kinds kinds.new ≡ used_from (with_kinds kinds.old) (atoms_of nothing wanted (datum value.now))) }
 {
