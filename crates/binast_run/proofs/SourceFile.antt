@@ -1,5 +1,5 @@
 -- The file of a first source.
-use Rattle.std.proofs.Common.{◌≡◌, ℕ, ◌<◌, ◌^◌, List, [], ◌∷◌, length, refl, lit<, lit≤, rules}
+use Rattle.std.proofs.Common.{◌≡◌, ℕ, ◌<◌, ◌^◌, [], ◌∷◌, length, refl, lit<, lit≤}
 use Rattle.std.proofs.lemmas.Bool.{lt-ltb}
 use Rattle.std.specs.List.{IsDistinct}
 use Rattle.bast_schema.specs.declared.kind.Kind.TheVariants.{Script, AssertedScriptGlobalScope, ExpressionStatement, LiteralNumericExpression}

@@ -1,5 +1,5 @@
 -- What is made of lists of atoms in a row.
-use Rattle.std.proofs.Common.{◌≡◌, ℕ, List, [], ◌∷◌, ◌++◌, refl, ap, sym, subst, ◌∙◌}
+use Rattle.std.proofs.Common.{◌≡◌, List, [], ◌∷◌, ◌++◌, refl, ap, sym, subst, ◌∙◌}
 use Rattle.container.specs.Atoms.{Atom}
 use Rattle.container.specs.Tables.{Tables}
 use Rattle.binast_run.specs.File.{used_from, with_atom, AllPlain}

@@ -1,5 +1,5 @@
 -- What the program answers to words and an input.
-use Rattle.std.specs.Prelude.{◌≡◌, ℕ, ◌≤◌, List, [], length, codes, Vec, Option, Some, None, IfSome}
+use Rattle.std.specs.Prelude.{◌≡◌, ℕ, ◌≤◌, List, [], length, codes, Option, Some, None, IfSome}
 use Rattle.std.specs.Io.KnownBytes.{Appends}
 use Rattle.bast_base.specs.Causes.{Rose}
 use Rattle.binast_run.specs.declared.command.Command.{Command}

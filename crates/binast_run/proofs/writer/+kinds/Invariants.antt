@@ -1,4 +1,4 @@
-use Rattle.std.proofs.Common.{◌≡◌, ℕ, ◌+◌, ◌*◌, ◌≤◌, length, drop}
+use Rattle.std.proofs.Common.{◌≡◌, ◌*◌, ◌≤◌, length, drop}
 use Rattle.bast_schema.specs.Tree.{weight, weight_in, weight_at}
 use Rattle.bast_schema.specs.View.{datum, data_of}
 use Rattle.container.specs.Atoms.{atoms_of_fields, atoms_of_items}

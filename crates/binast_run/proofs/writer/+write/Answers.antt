@@ -4,7 +4,7 @@ use Rattle.bast_schema.specs.declared.kind.Union.TheVariants.{Body}
 use Rattle.bast_schema.specs.View.{datum, data_of}
 use Rattle.bast_schema.proofs.Lists.{weight_member, count_data_of}
 use Rattle.container.specs.Atoms.{atoms_of, atoms_of_fields, atoms_of_items}
-use Rattle.container.specs.Spelled.{framed, spelled_at, spelled_fields, spelled_items}
+use Rattle.container.specs.Spelled.{spelled_at, spelled_fields, spelled_items}
 use Rattle.container.proofs.Fields.{atoms_of_fields_drop, atoms_of_items_drop, spelled_fields_drop, spelled_items_drop, spelled_list, unframed_at, goes_on}
 use Rattle.binast_run.specs.File.{nothing, with_kinds}
 use Rattle.binast_run.proofs.Used.{plain_next}
