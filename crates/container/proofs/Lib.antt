@@ -1,2 +1,11 @@
+pub mod Answered
+pub mod Counted
 pub mod Entries
 pub mod Fields
+pub mod Fixed
+pub mod LayoutLemmas
+pub mod Named
+pub mod OutsideLemmas
+pub mod Ranges
+pub mod Reached
+pub mod TableLemmas

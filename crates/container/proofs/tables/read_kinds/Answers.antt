@@ -1,0 +1,29 @@
+use Rattle.std.proofs.Common.{arith, length, sym, ◌∙◌, ap, ◌≡◌, ◌≤◌, ◌<◌, ℕ, ◌-◌}
+use Rattle.std.proofs.lemmas.Result.{err_from_is_err_and}
+use Rattle.bast_base.specs.declared.errors.Halt.TheVariants as halt
+use Rattle.container.specs.Answers.{Answers}
+use Rattle.container.specs.Entries.{entries_at, more_kinds}
+use Rattle.container.proofs.TableLemmas.{table_start, table_fails, entries_more, entry_fails}
+use Rattle.container.proofs.tables.read_kinds.Goals as goal
+
+pub returns-in_err-count-clause-exact : goal.returns-in_err-count-clause-exact
+returns-in_err-count-clause-exact g c =
+    let r = err_from_is_err_and c.from_residual.result c.from_residual.ensures.1 in
+    rw (r.1, r.2) (table_fails more_kinds c.args.tape.now c.args.to c.args.from _ c.in_err-count.ensures.exact)
+
+pub entries-init : goal.entries-init
+entries-init g c = (
+  rw c.new-kinds.ensures (table_start more_kinds c.args.tape.now c.args.to c.args.from c.in_ok-count.count c.in_ok-count.start c.in_ok-count.ensures.exact),
+  omega (arith, c.in_ok-count.ensures.spelled.within),
+  omega (arith, c.in_ok-count.ensures.spelled.ahead),
+  omega (arith, c.in_ok-count.ensures.cost, c.in_ok-count.ensures.spelled.ahead),
+)
+
+pub entries-preserved : goal.entries-preserved
+entries-preserved g c = (
+  entries_more more_kinds c.args.tape.now c.args.to c.in_ok-count.count c.entries.counter c.entries.kinds c.entries.place c.read_kind.new.kinds c.in_ok-place.place c.entries-test.true c.in_ok-place.ensures.exact
+  ∙ c.entries.invariant.0,
+  omega (arith, c.in_ok-place.ensures.ahead.1),
+  omega (arith, c.in_ok-place.ensures.ahead.0),
+  omega (arith, c.in_ok-place.ensures.cost, c.in_ok-place.ensures.ahead.0),
+)

@@ -1,0 +1,63 @@
+ghost use Rattle.std.specs.Prelude.{◌≡◌, ◌≤◌, ◌+◌, ◌++◌, length, codes, IfOk};
+ghost use Rattle.container.specs.Answers.{Answers};
+ghost use Rattle.container.specs.Clauses.{Lies, head_at};
+ghost use Rattle.container.specs.Layout.{layout_of, outside};
+ghost use Rattle.var_numbers.specs.Varnum.{varnum};
+
+use crate::parts::{read_fixed, read_section};
+use crate::tables::{check_end, read_kinds, read_texts};
+use bast_base::{FormatFault, Halt, Steps, Tape, Why};
+use bast_schema::KindTable;
+use std::alloc::Global;
+use string_table::StringTable;
+use var_numbers::read_varnum;
+
+// The version that is read.
+const VERSION: u32 = 1;
+
+/// The two tables of a file, and where the bytes of its tree begin and end, counted from the file's start.
+#[derive(Drop)]
+pub struct Layout {
+    pub kinds: KindTable,
+    pub strings: StringTable,
+    pub from: u32,
+    pub to: u32,
+}
+
+/// Reads the container of a file: its two tables, and where its tree lies. The tree is not looked at.
+pub fn read_layout<L>(alloc: Global, tape: &Tape<L>, steps: &mut Steps<L>) -> Result<Layout, Halt>
+    ensures layout { Answers result (layout_of tape.now) }
+    ensures cost { steps.new ≤ steps.old + outside tape.now }
+{
+    let head = read_head(tape, steps)?;
+    let (from, to) = read_section(tape, b"[GRAMMAR]", head, steps)?;
+    let kinds = read_kinds(alloc, tape, from, to, steps)?;
+    let (from, to) = read_section(tape, b"[STRINGS]", to, steps)?;
+    let strings = read_texts(alloc, tape, from, to, steps)?;
+    let (from, to) = read_section(tape, b"[TREE]", to, steps)?;
+    check_end(to, tape.len())?;
+    Ok(Layout {
+        kinds,
+        strings,
+        from,
+        to,
+    })
+}
+
+// The place behind the first bytes of a file and its version.
+fn read_head<L>(tape: &Tape<L>, steps: &mut Steps<L>) -> Result<u32, FormatFault>
+    ensures exact { result ≡ head_at tape.now }
+    ensures spelled { IfOk result (Lies tape.now 0 (length tape.now) (codes "BINJS" ++ varnum 1)) }
+    ensures cost { IfOk result (λ next. steps.new ≤ steps.old + next) }
+    ensures most { steps.new ≤ steps.old + length tape.now }
+{
+    let at = read_fixed(tape, b"BINJS", Why::BadMagic, 0, steps)?;
+    let (found, next) = read_varnum(tape, at, tape.len(), steps)?;
+    if found != VERSION {
+        return Err(FormatFault {
+            at,
+            why: Why::BadVersion { found },
+        });
+    }
+    Ok(next)
+}
