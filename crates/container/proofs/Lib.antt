@@ -1,3 +1,4 @@
+pub mod Added
 pub mod Answered
 pub mod Counted
 pub mod Entries
@@ -9,3 +10,4 @@ pub mod OutsideLemmas
 pub mod Ranges
 pub mod Reached
 pub mod TableLemmas
+pub mod TableSpelled

@@ -14,7 +14,7 @@ use Rattle.container.specs.Layout.{Reached, before_tree, less_content, outside, 
 use Rattle.container.specs.Parts.{agreeing, behind_shared, counted_at, fixed_at, number_from, so_many}
 use Rattle.container.proofs.LayoutLemmas.{from_kinds, from_strings, from_texts, from_tree, read}
 
-came_from : {A B : Type 0} (m : Result A FormatFault) (f : A → Result B FormatFault) (y : B) → (m >>= f) ≡ Ok y → (x : A) × (m ≡ Ok x) × (f x ≡ Ok y)
+pub came_from : {A B : Type 0} (m : Result A FormatFault) (f : A → Result B FormatFault) (y : B) → (m >>= f) ≡ Ok y → (x : A) × (m ≡ Ok x) × (f x ≡ Ok y)
 came_from (Ok x) f y is = (x, refl, is)
 came_from (Err e) f y is = cc
 

@@ -4,6 +4,7 @@ pub mod Clauses
 pub mod Container
 pub mod Entries
 pub mod InFile
+pub mod IsContainer
 pub mod Layout
 pub mod Parts
 pub mod Spelled

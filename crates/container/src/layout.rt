@@ -1,6 +1,7 @@
 ghost use Rattle.std.specs.Prelude.{◌≡◌, ◌≤◌, ◌+◌, ◌++◌, length, codes, IfOk};
 ghost use Rattle.container.specs.Answers.{Answers};
 ghost use Rattle.container.specs.Clauses.{Lies, head_at};
+ghost use Rattle.container.specs.IsContainer.{IsContainer};
 ghost use Rattle.container.specs.Layout.{layout_of, outside};
 ghost use Rattle.var_numbers.specs.Varnum.{varnum};
 
@@ -27,6 +28,7 @@ pub struct Layout {
 /// Reads the container of a file: its two tables, and where its tree lies. The tree is not looked at.
 pub fn read_layout<L>(alloc: Global, tape: &Tape<L>, steps: &mut Steps<L>) -> Result<Layout, Halt>
     ensures layout { Answers result (layout_of tape.now) }
+    ensures spelled { IfOk result (IsContainer tape.now) }
     ensures cost { steps.new ≤ steps.old + outside tape.now }
 {
     let head = read_head(tape, steps)?;

@@ -17,7 +17,7 @@ struct Case {
     why: Why,
 }
 
-const fn case(from: usize, to: usize, put: &'static [u8], at: u32, why: Why) -> Case {
+const fn told(from: usize, to: usize, put: &'static [u8], at: u32, why: Why) -> Case {
     Case {
         from,
         to,
@@ -65,13 +65,13 @@ fn first_wrong(alloc: Global, cases: &[Case]) -> Result<Option<usize>, AllocErro
 #[test]
 fn a_wrong_head_is_told(rt: HostRuntime) -> Result<(), Fail> {
     let cases = [
-        case(0, 1, b"X", 0, Why::BadMagic),
-        case(2, 3, b"n", 2, Why::BadMagic),
-        case(4, 5, b"s", 4, Why::BadMagic),
-        case(5, 6, b"\x04", 5, Why::BadVersion { found: 2 }),
-        case(5, 6, b"\x00", 5, Why::BadVersion { found: 0 }),
-        case(5, 6, b"\x01\x02", 5, Why::BadVersion { found: 128 }),
-        case(
+        told(0, 1, b"X", 0, Why::BadMagic),
+        told(2, 3, b"n", 2, Why::BadMagic),
+        told(4, 5, b"s", 4, Why::BadMagic),
+        told(5, 6, b"\x04", 5, Why::BadVersion { found: 2 }),
+        told(5, 6, b"\x00", 5, Why::BadVersion { found: 0 }),
+        told(5, 6, b"\x01\x02", 5, Why::BadVersion { found: 128 }),
+        told(
             5,
             6,
             b"\xFF\xFF\xFF\xFF\x1E",
@@ -86,19 +86,19 @@ fn a_wrong_head_is_told(rt: HostRuntime) -> Result<(), Fail> {
 #[test]
 fn a_wrong_section_is_told(rt: HostRuntime) -> Result<(), Fail> {
     let cases = [
-        case(6, 7, b"G", 6, Why::BadSection),
-        case(14, 15, b")", 14, Why::BadSection),
-        case(59, 60, b"S", 59, Why::BadSection),
-        case(67, 68, b"}", 67, Why::BadSection),
-        case(79, 80, b"T", 79, Why::BadSection),
-        case(84, 85, b"i", 84, Why::BadSection),
-        case(6, 15, b"[STRINGS]", 7, Why::BadSection),
-        case(15, 16, b"g", 15, Why::NotIdentity),
-        case(23, 24, b"g", 23, Why::NotIdentity),
-        case(68, 69, b"g", 68, Why::NotIdentity),
-        case(76, 77, b"g", 76, Why::NotIdentity),
-        case(85, 86, b"g", 85, Why::NotIdentity),
-        case(93, 94, b"g", 93, Why::NotIdentity),
+        told(6, 7, b"G", 6, Why::BadSection),
+        told(14, 15, b")", 14, Why::BadSection),
+        told(59, 60, b"S", 59, Why::BadSection),
+        told(67, 68, b"}", 67, Why::BadSection),
+        told(79, 80, b"T", 79, Why::BadSection),
+        told(84, 85, b"i", 84, Why::BadSection),
+        told(6, 15, b"[STRINGS]", 7, Why::BadSection),
+        told(15, 16, b"g", 15, Why::NotIdentity),
+        told(23, 24, b"g", 23, Why::NotIdentity),
+        told(68, 69, b"g", 68, Why::NotIdentity),
+        told(76, 77, b"g", 76, Why::NotIdentity),
+        told(85, 86, b"g", 85, Why::NotIdentity),
+        told(93, 94, b"g", 93, Why::NotIdentity),
     ];
     assert_eq!(rt; first_wrong(rt.alloc(), &cases)?, None);
     Ok(())
@@ -107,22 +107,22 @@ fn a_wrong_section_is_told(rt: HostRuntime) -> Result<(), Fail> {
 #[test]
 fn an_end_is_told(rt: HostRuntime) -> Result<(), Fail> {
     let cases = [
-        case(24, 25, b"\xFF\xFF\xFF\xFF\x1E", 105, Why::Ended),
-        case(24, 25, b"\x9B\x02", 102, Why::Ended),
-        case(77, 78, b"0", 101, Why::Ended),
-        case(94, 95, b"\x0E", 101, Why::Ended),
-        case(24, 59, b"\x00", 25, Why::Ended),
-        case(24, 25, b"B", 58, Why::Ended),
-        case(25, 26, b"\x06", 59, Why::Ended),
-        case(26, 27, b"\xFE", 59, Why::Ended),
-        case(24, 26, b"L\xFF\xFF\xFF\xFF\x1E", 63, Why::Ended),
-        case(24, 59, b"\x12\x04\x0CScript\x01", 34, Why::Ended),
-        case(77, 79, b"\x02\x02", 79, Why::Ended),
-        case(77, 79, b"\x06\x02\x06a", 81, Why::Ended),
-        case(77, 79, b"\x04\x02\x01", 80, Why::Ended),
-        case(77, 79, b"\x04\xFF", 80, Why::Ended),
-        case(77, 79, b"\x00", 78, Why::Ended),
-        case(77, 79, b"\x0A\xFF\xFF\xFF\xFF\x1E", 83, Why::Ended),
+        told(24, 25, b"\xFF\xFF\xFF\xFF\x1E", 105, Why::Ended),
+        told(24, 25, b"\x9B\x02", 102, Why::Ended),
+        told(77, 78, b"0", 101, Why::Ended),
+        told(94, 95, b"\x0E", 101, Why::Ended),
+        told(24, 59, b"\x00", 25, Why::Ended),
+        told(24, 25, b"B", 58, Why::Ended),
+        told(25, 26, b"\x06", 59, Why::Ended),
+        told(26, 27, b"\xFE", 59, Why::Ended),
+        told(24, 26, b"L\xFF\xFF\xFF\xFF\x1E", 63, Why::Ended),
+        told(24, 59, b"\x12\x04\x0CScript\x01", 34, Why::Ended),
+        told(77, 79, b"\x02\x02", 79, Why::Ended),
+        told(77, 79, b"\x06\x02\x06a", 81, Why::Ended),
+        told(77, 79, b"\x04\x02\x01", 80, Why::Ended),
+        told(77, 79, b"\x04\xFF", 80, Why::Ended),
+        told(77, 79, b"\x00", 78, Why::Ended),
+        told(77, 79, b"\x0A\xFF\xFF\xFF\xFF\x1E", 83, Why::Ended),
     ];
     assert_eq!(rt; first_wrong(rt.alloc(), &cases)?, None);
     Ok(())
@@ -131,12 +131,12 @@ fn an_end_is_told(rt: HostRuntime) -> Result<(), Fail> {
 #[test]
 fn bytes_that_are_left_are_told(rt: HostRuntime) -> Result<(), Fail> {
     let cases = [
-        case(24, 25, b"F", 59, Why::Trailing),
-        case(25, 26, b"\x02", 33, Why::Trailing),
-        case(25, 26, b"\x00", 26, Why::Trailing),
-        case(77, 78, b"\x04", 79, Why::Trailing),
-        case(94, 95, b"\x0A", 100, Why::Trailing),
-        case(101, 101, b"\x00", 101, Why::Trailing),
+        told(24, 25, b"F", 59, Why::Trailing),
+        told(25, 26, b"\x02", 33, Why::Trailing),
+        told(25, 26, b"\x00", 26, Why::Trailing),
+        told(77, 78, b"\x04", 79, Why::Trailing),
+        told(94, 95, b"\x0A", 100, Why::Trailing),
+        told(101, 101, b"\x00", 101, Why::Trailing),
     ];
     assert_eq!(rt; first_wrong(rt.alloc(), &cases)?, None);
     Ok(())
@@ -145,20 +145,20 @@ fn bytes_that_are_left_are_told(rt: HostRuntime) -> Result<(), Fail> {
 #[test]
 fn a_wrong_number_is_told(rt: HostRuntime) -> Result<(), Fail> {
     let cases = [
-        case(5, 6, b"\x03\x00", 6, Why::Overlong),
-        case(24, 25, b"E\x00", 25, Why::Overlong),
-        case(77, 78, b"\x03\x00", 78, Why::Overlong),
-        case(94, 95, b"\x0D\x00", 95, Why::Overlong),
-        case(24, 26, b"F\x05\x00", 26, Why::Overlong),
-        case(24, 59, b"\x14\x04\x0CScript\x0D\x00", 34, Why::Overlong),
-        case(77, 79, b"\x04\x01\x00", 79, Why::Overlong),
-        case(5, 6, b"\xFF\xFF\xFF\xFF ", 9, Why::TooBig),
-        case(5, 6, b"\x01\x01\x01\x01\x01", 9, Why::TooBig),
-        case(24, 25, b"\xFF\xFF\xFF\xFF ", 28, Why::TooBig),
-        case(77, 78, b"\x01\x01\x01\x01<", 81, Why::TooBig),
-        case(94, 95, b"\xFF\xFF\xFF\xFF<", 98, Why::TooBig),
-        case(24, 26, b"L\xFF\xFF\xFF\xFF ", 29, Why::TooBig),
-        case(77, 79, b"\x0A\xFF\xFF\xFF\xFF ", 82, Why::TooBig),
+        told(5, 6, b"\x03\x00", 6, Why::Overlong),
+        told(24, 25, b"E\x00", 25, Why::Overlong),
+        told(77, 78, b"\x03\x00", 78, Why::Overlong),
+        told(94, 95, b"\x0D\x00", 95, Why::Overlong),
+        told(24, 26, b"F\x05\x00", 26, Why::Overlong),
+        told(24, 59, b"\x14\x04\x0CScript\x0D\x00", 34, Why::Overlong),
+        told(77, 79, b"\x04\x01\x00", 79, Why::Overlong),
+        told(5, 6, b"\xFF\xFF\xFF\xFF ", 9, Why::TooBig),
+        told(5, 6, b"\x01\x01\x01\x01\x01", 9, Why::TooBig),
+        told(24, 25, b"\xFF\xFF\xFF\xFF ", 28, Why::TooBig),
+        told(77, 78, b"\x01\x01\x01\x01<", 81, Why::TooBig),
+        told(94, 95, b"\xFF\xFF\xFF\xFF<", 98, Why::TooBig),
+        told(24, 26, b"L\xFF\xFF\xFF\xFF ", 29, Why::TooBig),
+        told(77, 79, b"\x0A\xFF\xFF\xFF\xFF ", 82, Why::TooBig),
     ];
     assert_eq!(rt; first_wrong(rt.alloc(), &cases)?, None);
     Ok(())
@@ -167,46 +167,46 @@ fn a_wrong_number_is_told(rt: HostRuntime) -> Result<(), Fail> {
 #[test]
 fn a_wrong_entry_is_told(rt: HostRuntime) -> Result<(), Fail> {
     let cases = [
-        case(27, 28, b"s", 27, Why::UnknownKind),
-        case(34, 35, b"a", 34, Why::UnknownKind),
-        case(24, 59, b"\x04\x02\x00", 27, Why::UnknownKind),
-        case(27, 28, b"\xFF", 27, Why::UnknownKind),
-        case(77, 79, b"\x06\x02\x02\xFF", 80, Why::NotUtf8),
-        case(77, 79, b"\x0A\x02\x06a\xE2\x82", 81, Why::NotUtf8),
-        case(77, 79, b"\x0A\x02\x06\xFF\x00\x00", 80, Why::NotUtf8),
-        case(77, 79, b"\x08\x02\x04\xFF\x01", 80, Why::NotUtf8),
-        case(77, 79, b"\x0A\x04\x02a\x02\xFF", 82, Why::NotUtf8),
-        case(77, 79, b"\x0E\x04\x02a\x06\xC3\xBF\xC0", 84, Why::NotUtf8),
-        case(
+        told(27, 28, b"s", 27, Why::UnknownKind),
+        told(34, 35, b"a", 34, Why::UnknownKind),
+        told(24, 59, b"\x04\x02\x00", 27, Why::UnknownKind),
+        told(27, 28, b"\xFF", 27, Why::UnknownKind),
+        told(77, 79, b"\x06\x02\x02\xFF", 80, Why::NotUtf8),
+        told(77, 79, b"\x0A\x02\x06a\xE2\x82", 81, Why::NotUtf8),
+        told(77, 79, b"\x0A\x02\x06\xFF\x00\x00", 80, Why::NotUtf8),
+        told(77, 79, b"\x08\x02\x04\xFF\x01", 80, Why::NotUtf8),
+        told(77, 79, b"\x0A\x04\x02a\x02\xFF", 82, Why::NotUtf8),
+        told(77, 79, b"\x0E\x04\x02a\x06\xC3\xBF\xC0", 84, Why::NotUtf8),
+        told(
             24,
             59,
             b"\x1E\x04\x0CScript\x0CScript",
             34,
             Why::Repeated { first: 0 },
         ),
-        case(
+        told(
             24,
             59,
             b"(\x06\x0CScript\x0A_Null\x0A_Null",
             40,
             Why::Repeated { first: 1 },
         ),
-        case(77, 79, b"\x06\x04\x00\x00", 81, Why::Repeated { first: 0 }),
-        case(
+        told(77, 79, b"\x06\x04\x00\x00", 81, Why::Repeated { first: 0 }),
+        told(
             77,
             79,
             b"\x0A\x04\x02a\x02a",
             82,
             Why::Repeated { first: 0 },
         ),
-        case(
+        told(
             77,
             79,
             b"\x0E\x04\x04\xFF\x00\x04\xFF\x00",
             83,
             Why::Repeated { first: 0 },
         ),
-        case(
+        told(
             77,
             79,
             b"\x0E\x06\x02a\x02b\x02b",

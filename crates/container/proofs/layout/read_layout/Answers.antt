@@ -4,6 +4,7 @@ use Rattle.container.specs.Parts.{done_at}
 use Rattle.container.proofs.LayoutLemmas.{layout_left, layout_stands}
 use Rattle.container.proofs.OutsideLemmas.{outside_kinds, outside_read, outside_texts}
 use Rattle.container.proofs.Reached.{behind_head, behind_grammar, behind_kinds, behind_strings, behind_texts, behind_tree, fails_in_kinds, fails_in_texts, stops_in_head, stops_in_grammar, stops_in_strings, stops_in_tree}
+use Rattle.container.proofs.TableSpelled.{whole_container}
 use Rattle.container.proofs.layout.read_layout.Goals as goal
 
 pub returns-in_err-head-clause-layout : goal.returns-in_err-head-clause-layout
@@ -138,3 +139,11 @@ returns-clause-cost g c =
 pub read_section-requires : goal.read_section-requires
 read_section-requires g c =
     c.in_ok-head.ensures.spelled.within
+
+pub returns-clause-spelled : goal.returns-clause-spelled
+returns-clause-spelled g c =
+    whole_container c.args.tape.now c.in_ok-kinds.kinds c.in_ok-strings.strings c.in_ok-head.head c.in_ok-from.from c.in_ok-from.to c.in_ok-from-2.from c.in_ok-from-2.to c.in_ok-from-3.from c.in_ok-from-3.to
+    c.in_ok-head.ensures.spelled
+    c.in_ok-from.ensures.spelled c.in_ok-kinds.ensures.spelled c.in_ok-kinds.ensures.exact
+    c.in_ok-from-2.ensures.spelled c.in_ok-strings.ensures.spelled c.in_ok-strings.ensures.exact
+    c.in_ok-from-3.ensures.spelled (c.in_ok-check_end.ensures ∙ ap (λ (n : ℕ). done_at n c.in_ok-from-3.to) c.len.ensures)
