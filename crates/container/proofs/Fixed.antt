@@ -71,8 +71,8 @@ agreeing_front [] xs is = refl
 agreeing_front (d ∷ ds) [] is = absurd (omega arith)
 agreeing_front (d ∷ ds) (x ∷ xs) is = elim (eqb_tells d x) [
   | inl p ↦
-    let e : agreeing ds xs ≡ length ds = omega (arith, sym (agreeing_same d x ds xs p.1) ∙ is) in
-    ap (λ (y : ℕ). y ∷ xs) (sym p.1) ∙ ap (λ (ys : List ℕ). d ∷ ys) (agreeing_front ds xs e)
+      let e : agreeing ds xs ≡ length ds = omega (arith, sym (agreeing_same d x ds xs p.1) ∙ is) in
+      ap (λ (y : ℕ). y ∷ xs) (sym p.1) ∙ ap (λ (ys : List ℕ). d ∷ ys) (agreeing_front ds xs e)
   | inr p ↦ absurd (omega (arith, sym (agreeing_other d x ds xs p.1) ∙ is))
 ]
 

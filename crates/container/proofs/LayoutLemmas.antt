@@ -57,20 +57,20 @@ strings_parts : (bytes : List ℕ) (r : Reached)
 strings_parts bytes r =
     section_reached bytes (codes "[STRINGS]") (texts ∷ section_end ∷ section_start (codes "[TREE]")) r
     ∙ under (section_at bytes (codes "[STRINGS]") r.at) _ (λ s. from_texts bytes r.layout.kinds s) (λ s.
-      texts_reached bytes (section_start (codes "[TREE]")) (record { layout = record r.layout { from = s.0; to = s.1 }; at = s.0 })
-      ∙ under (whole_table more_texts bytes s.1 s.0) _ (λ ts. from_tree bytes r.layout.kinds ts s.1) (λ ts.
-        section_reached bytes (codes "[TREE]") [] (record { layout = record r.layout { strings = ts; from = s.0; to = s.1 }; at = s.1 })))
+    texts_reached bytes (section_start (codes "[TREE]")) (record { layout = record r.layout { from = s.0; to = s.1 }; at = s.0 })
+    ∙ under (whole_table more_texts bytes s.1 s.0) _ (λ ts. from_tree bytes r.layout.kinds ts s.1) (λ ts.
+    section_reached bytes (codes "[TREE]") [] (record { layout = record r.layout { strings = ts; from = s.0; to = s.1 }; at = s.1 })))
 
 pub parts : (bytes : List ℕ) → reach_all bytes before_tree start ≡ (head_at bytes >>= λ h. from_grammar bytes h)
 parts bytes =
     let behind : List Due = fixed (codes "[STRINGS]") BadSection ∷ fixed (codes "identity;") NotIdentity ∷ size ∷ texts ∷ section_end ∷ section_start (codes "[TREE]") in
     head_reached bytes (section_start (codes "[GRAMMAR]") ++ (kinds ∷ section_end ∷ behind))
     ∙ under (head_at bytes) _ (λ h. from_grammar bytes h) (λ h.
-      section_reached bytes (codes "[GRAMMAR]") (kinds ∷ section_end ∷ behind) (record start { at = h })
-      ∙ under (section_at bytes (codes "[GRAMMAR]") h) _ (λ g. from_kinds bytes g) (λ g.
-        kinds_reached bytes behind (record { layout = record start.layout { from = g.0; to = g.1 }; at = g.0 })
-        ∙ under (whole_table more_kinds bytes g.1 g.0) _ (λ ks. from_strings bytes ks g.1) (λ ks.
-          strings_parts bytes (record { layout = record start.layout { kinds = ks; from = g.0; to = g.1 }; at = g.1 }))))
+    section_reached bytes (codes "[GRAMMAR]") (kinds ∷ section_end ∷ behind) (record start { at = h })
+    ∙ under (section_at bytes (codes "[GRAMMAR]") h) _ (λ g. from_kinds bytes g) (λ g.
+    kinds_reached bytes behind (record { layout = record start.layout { from = g.0; to = g.1 }; at = g.0 })
+    ∙ under (whole_table more_kinds bytes g.1 g.0) _ (λ ks. from_strings bytes ks g.1) (λ ks.
+    strings_parts bytes (record { layout = record start.layout { kinds = ks; from = g.0; to = g.1 }; at = g.1 }))))
 
 reach_append : (bytes : List ℕ) (xs ys : List Due) (r : Reached) → reach_all bytes (xs ++ ys) r ≡ (reach_all bytes xs r >>= λ q. reach_all bytes ys q)
 reach_append bytes [] ys r = refl

@@ -4,10 +4,12 @@ pub mod Counted
 pub mod Entries
 pub mod Fields
 pub mod Fixed
+pub mod Fresh
 pub mod LayoutLemmas
 pub mod Named
 pub mod OutsideLemmas
 pub mod Ranges
+pub mod ReadBack
 pub mod Reached
 pub mod TableLemmas
 pub mod TableSpelled

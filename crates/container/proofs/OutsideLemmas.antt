@@ -37,11 +37,11 @@ so_many_after : (end at : ℕ) (n r : ℕ × ℕ) (bytes : List ℕ) → at ≤ 
 so_many_after end at n r bytes ahead is = elim (cases_lt end (n.1 + n.0)) [
   | inl long ↦ absurd (apart r (fault end Ended) (sym is ∙ rw (lt-ltb end (n.1 + n.0) long) refl))
   | inr short ↦
-    let e : Ok (n.1, n.1 + n.0) ≡ so_many end n = rw (not_less end (n.1 + n.0) short) refl in
-    let p : (n.1, n.1 + n.0) ≡ r = cc in
-    let p0 : n.1 ≡ r.0 = ap (λ (q : ℕ × ℕ). q.0) p in
-    let p1 : n.1 + n.0 ≡ r.1 = ap (λ (q : ℕ × ℕ). q.1) p in
-    record { ahead = omega arith; order = omega arith; within = omega arith }
+      let e : Ok (n.1, n.1 + n.0) ≡ so_many end n = rw (not_less end (n.1 + n.0) short) refl in
+      let p : (n.1, n.1 + n.0) ≡ r = cc in
+      let p0 : n.1 ≡ r.0 = ap (λ (q : ℕ × ℕ). q.0) p in
+      let p1 : n.1 + n.0 ≡ r.1 = ap (λ (q : ℕ × ℕ). q.1) p in
+      record { ahead = omega arith; order = omega arith; within = omega arith }
 ]
 
 counted_after : (bytes : List ℕ) (at end : ℕ) (r : ℕ × ℕ) → counted_at bytes end at ≡ Ok r → After bytes at end r

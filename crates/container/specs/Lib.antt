@@ -5,6 +5,7 @@ pub mod Container
 pub mod Entries
 pub mod InFile
 pub mod IsContainer
+pub mod Laws
 pub mod Layout
 pub mod Parts
 pub mod Spelled

@@ -1,8 +1,9 @@
-ghost use Rattle.std.specs.Prelude.{◌≡◌, ◌≤◌, ◌+◌, ◌++◌, length, codes, IfOk};
+ghost use Rattle.std.specs.Prelude.{◌≡◌, ◌<◌, ◌≤◌, ◌+◌, ◌^◌, ◌++◌, List, ℕ, length, codes, Ok, IfOk};
 ghost use Rattle.container.specs.Answers.{Answers};
 ghost use Rattle.container.specs.Clauses.{Lies, head_at};
-ghost use Rattle.container.specs.IsContainer.{IsContainer};
+ghost use Rattle.container.specs.IsContainer.{IsContainer, IsFileOf, layout_in};
 ghost use Rattle.container.specs.Layout.{layout_of, outside};
+ghost use Rattle.container.specs.Tables.{Tables};
 ghost use Rattle.var_numbers.specs.Varnum.{varnum};
 
 use crate::parts::{read_fixed, read_section};
@@ -29,7 +30,22 @@ pub struct Layout {
 pub fn read_layout<L>(alloc: Global, tape: &Tape<L>, steps: &mut Steps<L>) -> Result<Layout, Halt>
     ensures layout { Answers result (layout_of tape.now) }
     ensures spelled { IfOk result (IsContainer tape.now) }
+    ensures only { (s : Tables) (tree : List ℕ) → IsFileOf s tree tape.now → Answers result (Ok (layout_in s tree tape.now)) }
     ensures cost { steps.new ≤ steps.old + outside tape.now }
+{
+    read_parts(alloc, tape, steps)
+}
+
+// The parts of a container, one after another.
+fn read_parts<L>(
+    alloc: Global,
+    tape: &Tape<L>,
+    steps: &mut Steps<L>,
+) -> Result<Layout, Halt>
+    ensures layout { Answers result (layout_of tape.now) }
+    ensures spelled { IfOk result (IsContainer tape.now) }
+    ensures cost { steps.new ≤ steps.old + outside tape.now }
+    ensures small { length tape.now < 2 ^ 32 }
 {
     let head = read_head(tape, steps)?;
     let (from, to) = read_section(tape, b"[GRAMMAR]", head, steps)?;
@@ -52,6 +68,7 @@ fn read_head<L>(tape: &Tape<L>, steps: &mut Steps<L>) -> Result<u32, FormatFault
     ensures spelled { IfOk result (Lies tape.now 0 (length tape.now) (codes "BINJS" ++ varnum 1)) }
     ensures cost { IfOk result (λ next. steps.new ≤ steps.old + next) }
     ensures most { steps.new ≤ steps.old + length tape.now }
+    ensures small { length tape.now < 2 ^ 32 }
 {
     let at = read_fixed(tape, b"BINJS", Why::BadMagic, 0, steps)?;
     let (found, next) = read_varnum(tape, at, tape.len(), steps)?;

@@ -1,4 +1,4 @@
-ghost use Rattle.std.specs.Prelude.{◌≡◌, ◌≤◌, ◌+◌, ◌-◌, length, IfOk};
+ghost use Rattle.std.specs.Prelude.{◌≡◌, ◌<◌, ◌≤◌, ◌+◌, ◌-◌, ◌^◌, length, IfOk};
 ghost use Rattle.container.specs.Clauses.{Lies, LiesCounted, LiesSection, section_at};
 ghost use Rattle.container.specs.Parts.{counted_at, fixed_at};
 
@@ -18,6 +18,7 @@ pub(crate) fn read_fixed<L>(
     ensures spelled { IfOk result (Lies tape.now at (length tape.now) due.now) }
     ensures cost { IfOk result (λ next. steps.new ≤ steps.old + (next - at)) }
     ensures most { steps.new ≤ steps.old + (length tape.now - at) }
+    ensures small { length tape.now < 2 ^ 32 }
 {
     let end = tape.len();
     let mut place = at;

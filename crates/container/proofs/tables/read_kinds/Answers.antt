@@ -26,7 +26,7 @@ entries-init g c = (
 pub entries-preserved : goal.entries-preserved
 entries-preserved g c = (
   entries_more more_kinds c.args.tape.now c.args.to c.in_ok-count.count c.entries.counter c.entries.kinds c.entries.place c.read_kind.new.kinds c.in_ok-place.place c.entries-test.true c.in_ok-place.ensures.exact
-  ∙ c.entries.invariant.0,
+      ∙ c.entries.invariant.0,
   omega (arith, c.in_ok-place.ensures.ahead.1),
   omega (arith, c.in_ok-place.ensures.ahead.0),
   omega (arith, c.in_ok-place.ensures.cost, c.in_ok-place.ensures.ahead.0),

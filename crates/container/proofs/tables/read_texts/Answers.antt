@@ -27,7 +27,7 @@ entries-init g c = (
 pub entries-preserved : goal.entries-preserved
 entries-preserved g c = (
   entries_more more_texts c.args.tape.now c.args.to c.in_ok-count.count c.entries.counter c.entries.strings c.entries.place c.read_text.new.strings c.in_ok-place.place c.entries-test.true c.in_ok-place.ensures.exact
-  ∙ c.entries.invariant.0,
+      ∙ c.entries.invariant.0,
   omega (arith, c.in_ok-place.ensures.ahead.1),
   omega (arith, c.in_ok-place.ensures.ahead.0),
   omega (arith, c.in_ok-place.ensures.few),
