@@ -12,7 +12,7 @@ use Rattle.bast_schema.proofs.Distinct.{distinct_end}
 use Rattle.string_table.specs.Entries.{AreDistinct, added, place_in}
 use Rattle.string_table.proofs.Laws.{AreDistinct-added}
 use Rattle.container.specs.Answers.{◌>>=◌}
-use Rattle.container.specs.Clauses.{Adds, Lies, LiesCounted, kind_entries, text_entries}
+use Rattle.container.specs.Clauses.{Adds, Lies, kind_entries, text_entries}
 use Rattle.container.specs.Container.{counted, entry_bytes}
 use Rattle.container.specs.Entries.{entry_of, more_kinds, more_texts, named, new_entry}
 use Rattle.container.specs.InFile.{IsEntry}
@@ -55,16 +55,13 @@ record Read (bytes : List ℕ) (entry : Option (List ℕ)) : Type 0 where
   bytes_are : entry_bytes entry ≡ bytes
   valid : IsEntry entry
 
-choose : {A : Type 0} → Bool → A → A → A
-choose b x y = if b then x else y
-
-entry_from : (bytes : List ℕ) (at : ℕ) (m : Result (Option (List ℕ)) FormatFault) (entry : Option (List ℕ)) (b c : Bool) → is_utf8 bytes ≡ b → bytes_eq bytes (entry_bytes None) ≡ c → (f : FormatFault)
+entry_from : (bytes : List ℕ) (entry : Option (List ℕ)) (b c : Bool) → is_utf8 bytes ≡ b → bytes_eq bytes (entry_bytes None) ≡ c → (f : FormatFault)
     → (if b then Ok (Some bytes) else if c then Ok None else Err f) ≡ Ok entry → Read bytes entry
-entry_from bytes at m entry true c e1 e2 f is = let e : Some bytes ≡ entry = cc in rw (← e) (record { bytes_are = refl; valid = e1 })
-entry_from bytes at m entry false true e1 e2 f is =
+entry_from bytes entry true c e1 e2 f is = let e : Some bytes ≡ entry = cc in rw (← e) (record { bytes_are = refl; valid = e1 })
+entry_from bytes entry false true e1 e2 f is =
     let e : None ≡ entry = cc in
     rw (← e) (record { bytes_are = sym ((bytes_eq-Decides bytes (entry_bytes None)).0 e2); valid = tt })
-entry_from bytes at m entry false false e1 e2 f is = absurd (apart is)
+entry_from bytes entry false false e1 e2 f is = absurd (apart is)
   where
     apart : Err f ≡ Ok entry → ⊥
     apart is = cc
@@ -72,7 +69,7 @@ entry_from bytes at m entry false false e1 e2 f is = absurd (apart is)
 text_from : (ts : List (Option (List ℕ))) (bytes : List ℕ) (at : ℕ) (new : List (Option (List ℕ))) (m : Result (Option (List ℕ)) FormatFault) → entry_of bytes at ≡ m → (m >>= λ entry. new_entry ts entry at (place_in ts entry)) ≡ Ok new → NewText ts bytes new
 text_from ts bytes at new (Ok entry) e is =
     let n = new_is ts entry at (place_in ts entry) new is in
-    let r = entry_from bytes at (entry_of bytes at) entry (is_utf8 bytes) (bytes_eq bytes (entry_bytes None)) refl refl _ e in
+    let r = entry_from bytes entry (is_utf8 bytes) (bytes_eq bytes (entry_bytes None)) refl refl _ e in
     record { entry = entry; bytes_are = r.bytes_are; valid = r.valid; none = n.0; is = n.1 }
 text_from ts bytes at new (Err f) e is = absurd (apart is)
   where

@@ -1,13 +1,13 @@
 -- Bytes behind their length, and numbers before them.
-use Rattle.std.proofs.Common.{◌≡◌, ◌≢◌, ℕ, ◌+◌, ◌-◌, ◌≤◌, ◌<◌, List, length, refl, sym, ap, ◌∙◌, arith, nat_lt, nat_eq, true, false, inl, inr, Ok, Err, Result}
+use Rattle.std.proofs.Common.{◌≡◌, ◌≢◌, ℕ, ◌+◌, ◌≤◌, ◌<◌, List, length, refl, arith, nat_lt, false, inl, inr, Ok, Err}
 use Rattle.std.proofs.lemmas.Bool.{lt-ltb, eq-eqb}
 use Rattle.std.proofs.lemmas.Bool.Decides.{eqb_tells}
 use Rattle.bast_base.specs.declared.errors.FormatFault.{FormatFault}
 use Rattle.bast_base.specs.declared.errors.Why.TheVariants.{BadVersion, Ended}
-use Rattle.container.specs.Answers.{fault, ◌>>=◌}
-use Rattle.container.specs.Parts.{counted_at, number_from, so_many, version_at}
+use Rattle.container.specs.Answers.{fault}
+use Rattle.container.specs.Parts.{counted_at, number_from, version_at}
 
-not_less : (m n : ℕ) → n ≤ m → nat_lt m n ≡ false
+pub not_less : (m n : ℕ) → n ≤ m → nat_lt m n ≡ false
 not_less m n over = grind arith
 
 pub counted_fails : (bytes : List ℕ) (at end : ℕ) (f : FormatFault) → Err f ≡ number_from bytes end at → Err f ≡ counted_at bytes end at

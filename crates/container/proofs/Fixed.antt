@@ -1,5 +1,5 @@
 -- Bytes that are due, compared one after another.
-use Rattle.std.proofs.Common.{◌≡◌, ◌≢◌, ◌⊎◌, inl, inr, ℕ, suc, ◌+◌, ◌-◌, ◌≤◌, ◌<◌, List, [], ◌∷◌, ◌++◌, length, drop, slice_index, slice_range, refl, sym, ap, subst, ◌∙◌, arith, add-one, drop-cons, length-append, length-drop, nat_eq, nat_lt, true, false, Ok, Err}
+use Rattle.std.proofs.Common.{◌≡◌, ◌≢◌, inl, inr, ℕ, suc, ◌+◌, ◌-◌, ◌≤◌, ◌<◌, List, [], ◌∷◌, ◌++◌, length, drop, slice_index, refl, sym, ap, subst, ◌∙◌, arith, add-one, drop-cons, length-append, length-drop, nat_eq, false, Ok, Err}
 use Rattle.std.proofs.lemmas.Bool.{eq-eqb, lt-ltb}
 use Rattle.std.proofs.lemmas.Bool.Decides.{eqb_tells}
 use Rattle.std.proofs.lemmas.List.{drop-drop}
@@ -8,7 +8,8 @@ use Rattle.bast_base.specs.declared.errors.Why.{Why}
 use Rattle.bast_base.specs.declared.errors.Why.TheVariants.{Ended}
 use Rattle.container.specs.Answers.{fault}
 use Rattle.container.specs.Clauses.{Lies}
-use Rattle.container.specs.Parts.{agreeing, behind_shared, fixed_at}
+use Rattle.container.specs.Parts.{agreeing, fixed_at}
+use Rattle.container.proofs.Counted.{not_less}
 use Rattle.container.proofs.Ranges.{range_to_end}
 
 agreeing_same : (x y : ℕ) (xs ys : List ℕ) → x ≡ y → agreeing (x ∷ xs) (y ∷ ys) ≡ suc (agreeing xs ys)
@@ -51,16 +52,13 @@ shared_ended bytes due at i place s over =
 not_all : (i n : ℕ) → i < n → nat_eq i n ≡ false
 not_all i n some = elim (eqb_tells i n) [ inl p ↦ absurd (omega (arith, p.1)) | inr p ↦ p.0 ]
 
-not_within : (i n : ℕ) → n ≤ i → nat_lt i n ≡ false
-not_within i n over = grind arith
-
 pub fixed_differs : (bytes due : List ℕ) (why : Why) (at i : ℕ) → agreeing due (drop at bytes) ≡ i → i < length due → at + i < length bytes → fixed_at bytes due why at ≡ Err (fault (at + i) why)
 unfolding fixed_at
 fixed_differs bytes due why at i is some within = rw (is, not_all i (length due) some, lt-ltb (at + i) (length bytes) within) refl
 
 pub fixed_ended : (bytes due : List ℕ) (why : Why) (at i : ℕ) → agreeing due (drop at bytes) ≡ i → i < length due → length bytes ≤ at + i → fixed_at bytes due why at ≡ Err (fault (length bytes) Ended)
 unfolding fixed_at
-fixed_ended bytes due why at i is some over = rw (is, not_all i (length due) some, not_within (at + i) (length bytes) over) refl
+fixed_ended bytes due why at i is some over = rw (is, not_all i (length due) some, not_less (at + i) (length bytes) over) refl
 
 pub fixed_stands : (bytes due : List ℕ) (why : Why) (at : ℕ) → agreeing due (drop at bytes) ≡ length due → fixed_at bytes due why at ≡ Ok (at + length due)
 unfolding fixed_at

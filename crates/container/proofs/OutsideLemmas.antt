@@ -1,17 +1,18 @@
 -- How far a container is read before its tree, and how many bytes lie outside of that.
-use Rattle.std.proofs.Common.{◌≡◌, ℕ, ◌+◌, ◌-◌, ◌<◌, ◌≤◌, List, length, refl, sym, ap, ◌∙◌, arith, inl, inr, codes, Option, Result, Ok, Err, nat_lt, false}
+use Rattle.std.proofs.Common.{◌≡◌, ℕ, ◌+◌, ◌-◌, ◌≤◌, List, length, refl, sym, ap, ◌∙◌, arith, inl, inr, codes, Option, Result, Ok, Err}
 use Rattle.std.proofs.lemmas.Bool.{cases_lt, lt-ltb}
 use Rattle.std.proofs.lemmas.Bool.Decides.{eqb_tells}
 use Rattle.bast_base.specs.declared.errors.FormatFault.{FormatFault}
 use Rattle.bast_base.specs.declared.errors.Why.{Why}
 use Rattle.bast_base.specs.declared.errors.Why.TheVariants.{BadSection, Ended, NotIdentity}
 use Rattle.bast_schema.specs.declared.kind.Kind.{Kind}
-use Rattle.var_numbers.specs.VarnumRead.{moved, number_in}
+use Rattle.var_numbers.specs.VarnumRead.{moved}
 use Rattle.container.specs.Answers.{fault, ◌>>=◌}
 use Rattle.container.specs.Clauses.{section_at, whole_table}
 use Rattle.container.specs.Entries.{more_kinds, more_texts}
 use Rattle.container.specs.Layout.{Reached, before_tree, less_content, outside, reach_all, start}
-use Rattle.container.specs.Parts.{agreeing, behind_shared, counted_at, fixed_at, number_from, so_many}
+use Rattle.container.specs.Parts.{behind_shared, counted_at, fixed_at, number_from, so_many}
+use Rattle.container.proofs.Counted.{not_less}
 use Rattle.container.proofs.LayoutLemmas.{from_kinds, from_strings, from_texts, from_tree, read}
 
 pub came_from : {A B : Type 0} (m : Result A FormatFault) (f : A → Result B FormatFault) (y : B) → (m >>= f) ≡ Ok y → (x : A) × (m ≡ Ok x) × (f x ≡ Ok y)
@@ -24,9 +25,6 @@ apart x e is = cc
 moved_after : (at : ℕ) (m : Result (ℕ × ℕ) FormatFault) (n : ℕ × ℕ) → moved at m ≡ Ok n → at ≤ n.1
 moved_after at (Ok r) n is = let e : (r.0, at + r.1) ≡ n = cc in let e1 : at + r.1 ≡ n.1 = ap (λ (p : ℕ × ℕ). p.1) e in omega arith
 moved_after at (Err f) n is = cc
-
-not_less : (m n : ℕ) → n ≤ m → nat_lt m n ≡ false
-not_less m n over = grind arith
 
 pub record After (bytes : List ℕ) (at end : ℕ) (r : ℕ × ℕ) : Type 0 where
   pub ahead : at ≤ r.0

@@ -1,12 +1,11 @@
 -- Parts of a file, one behind another.
-use Rattle.std.proofs.Common.{◌≡◌, ℕ, ◌+◌, ◌-◌, ◌≤◌, ◌<◌, List, ◌++◌, length, take, drop, slice_range, refl, sym, ap, subst, ◌∙◌, arith, append_assoc, length-append}
+use Rattle.std.proofs.Common.{◌≡◌, ℕ, ◌+◌, ◌-◌, ◌≤◌, List, ◌++◌, length, take, drop, slice_range, sym, ap, subst, ◌∙◌, arith, append_assoc, length-append}
 use Rattle.std.proofs.Math.Seq.{take-add}
 use Rattle.std.proofs.lemmas.List.{drop-drop, take_rest}
 use Rattle.var_numbers.proofs.RangeLemmas.{range-length}
 use Rattle.var_numbers.specs.ReadClauses.{Spells}
 use Rattle.var_numbers.specs.Varnum.{varnum}
 use Rattle.container.specs.Clauses.{Lies, LiesCounted}
-use Rattle.container.specs.Container.{counted}
 
 pub range_split : (bytes : List ℕ) (i j k : ℕ) → i ≤ j → j ≤ k → slice_range bytes i k ≡ slice_range bytes i j ++ slice_range bytes j k
 range_split bytes i j k before behind =

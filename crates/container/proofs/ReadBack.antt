@@ -1,29 +1,25 @@
 -- A container is read as what it is made of.
-use Rattle.std.proofs.Common.{◌≡◌, ℕ, zero, suc, ◌+◌, ◌-◌, ◌<◌, ◌≤◌, ◌^◌, List, [], ◌∷◌, ◌++◌, length, take, drop, slice_range, codes, Option, Some, None, Ok, Err, Result, append-nil, append_assoc, length-append, refl, sym, ap, subst, ◌∙◌, arith, lit<, nat_lt, false}
+use Rattle.std.proofs.Common.{◌≡◌, ℕ, suc, ◌+◌, ◌-◌, ◌<◌, ◌≤◌, ◌^◌, List, [], ◌∷◌, ◌++◌, length, take, drop, slice_range, codes, Option, Ok, Result, append-nil, append_assoc, length-append, refl, sym, ap, ◌∙◌, arith, lit<}
 use Rattle.std.specs.Prelude.{flat_map}
-use Rattle.std.specs.List.{AllByRecursion, IsDistinct}
 use Rattle.std.proofs.lemmas.Bool.{eq-eqb}
 use Rattle.std.proofs.lemmas.List.{drop_at, take_at}
 use Rattle.bast_base.specs.declared.errors.FormatFault.{FormatFault}
 use Rattle.bast_base.specs.declared.errors.Why.{Why}
 use Rattle.bast_base.specs.declared.errors.Why.TheVariants.{BadMagic, BadSection, NotIdentity}
 use Rattle.bast_schema.specs.declared.kind.Kind.{Kind}
-use Rattle.bast_schema.specs.Kinds.{kind_name, same_kind}
-use Rattle.string_table.specs.Entries.{AreDistinct}
+use Rattle.bast_schema.specs.Kinds.{kind_name}
 use Rattle.var_numbers.specs.Varnum.{varnum}
 use Rattle.var_numbers.proofs.RangeLemmas.{only-spelled, range-length}
 use Rattle.var_numbers.proofs.VarnumLemmas.{varnum-nonempty}
 use Rattle.container.specs.declared.layout.Layout.{Layout}
-use Rattle.container.specs.Answers.{◌>>=◌}
 use Rattle.container.specs.Clauses.{head_at, section_at, whole_table}
 use Rattle.container.specs.Container.{container, counted, entry_bytes, grammar, section, strings}
 use Rattle.container.specs.Entries.{Judge, entries_at, entry_at, more_kinds, more_texts, table_at}
-use Rattle.container.specs.InFile.{IsEntry}
 use Rattle.container.specs.IsContainer.{IsFileOf, layout_in}
 use Rattle.container.specs.Layout.{layout_of}
-use Rattle.container.specs.Parts.{agreeing, counted_at, done_at, fixed_at, number_from, version_at}
+use Rattle.container.specs.Parts.{agreeing, counted_at, done_at, fixed_at}
 use Rattle.container.specs.Tables.{Tables}
-use Rattle.container.proofs.Counted.{counted_stands, version_stands}
+use Rattle.container.proofs.Counted.{counted_stands, not_less, version_stands}
 use Rattle.container.proofs.Fixed.{fixed_stands}
 use Rattle.container.proofs.Fresh.{Fresh, kinds_fresh, texts_fresh}
 use Rattle.container.proofs.LayoutLemmas.{layout_stands}
@@ -57,9 +53,6 @@ agreeing_own (x ∷ xs) ys = rw (eq-eqb x x refl) (ap (λ (n : ℕ). suc n) (agr
 fixed_read : (bytes due more : List ℕ) (why : Why) (at : ℕ) → slice_range bytes at (length bytes) ≡ due ++ more → fixed_at bytes due why at ≡ Ok (at + length due)
 fixed_read bytes due more why at is =
     fixed_stands bytes due why at (ap (agreeing due) (sym (range_to_end bytes at) ∙ is) ∙ agreeing_own due more)
-
-not_less : (m n : ℕ) → n ≤ m → nat_lt m n ≡ false
-not_less m n over = grind arith
 
 done_read : (end at : ℕ) → at ≡ end → Ok tt ≡ done_at end at
 done_read end at is = rw (not_less at end (omega arith)) refl

@@ -1,5 +1,5 @@
 -- All of a section's content is its table, and the parts of a file are the container.
-use Rattle.std.proofs.Common.{rules, ◌≡◌, ◌⊎◌, inl, inr, ℕ, ◌+◌, ◌-◌, ◌<◌, ◌≤◌, List, [], ◌∷◌, ◌++◌, zero, suc, length, take, drop, slice_range, codes, append-nil, refl, sym, ap, subst, ◌∙◌, arith, Option, Result, Ok, Err, nat_lt}
+use Rattle.std.proofs.Common.{rules, ◌≡◌, inl, inr, ℕ, ◌-◌, ◌≤◌, List, [], ◌++◌, zero, suc, length, take, drop, slice_range, codes, append-nil, refl, sym, ap, subst, ◌∙◌, arith, Option, Ok, Err}
 use Rattle.std.specs.List.{AllByRecursion, IsDistinct}
 use Rattle.std.proofs.lemmas.Bool.{cases_lt, lt-ltb}
 use Rattle.bast_base.specs.declared.errors.FormatFault.{FormatFault}
@@ -7,10 +7,9 @@ use Rattle.bast_base.specs.declared.errors.Why.TheVariants.{Trailing}
 use Rattle.bast_schema.specs.declared.kind.Kind.{Kind}
 use Rattle.bast_schema.specs.Kinds.{same_kind}
 use Rattle.bast_schema.proofs.Distinct.{distinct_none}
-use Rattle.string_table.specs.Entries.{AreDistinct, is_same}
+use Rattle.string_table.specs.Entries.{AreDistinct}
 use Rattle.var_numbers.specs.ReadClauses.{Spells}
 use Rattle.var_numbers.specs.Varnum.{varnum}
-use Rattle.container.specs.declared.layout.Layout.{Layout}
 use Rattle.container.specs.Answers.{fault, ◌>>=◌}
 use Rattle.container.specs.Clauses.{Lies, LiesSection, whole_table}
 use Rattle.container.specs.Container.{container, grammar, section, strings}

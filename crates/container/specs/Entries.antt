@@ -10,7 +10,7 @@ use Rattle.bast_schema.specs.Kinds.{kind_of_name}
 use Rattle.string_table.specs.Entries.{place_in}
 use Rattle.container.specs.Answers.{fault, ◌>>=◌}
 use Rattle.container.specs.Container.{entry_bytes}
-use Rattle.container.specs.Parts.{counted_at, number_from, done_at}
+use Rattle.container.specs.Parts.{counted_at, number_from}
 
 -- these entries, and one more that isn't among them
 abbrev pub new_entry : {A : Type 0} → List A → A → ℕ → Option ℕ → Result (List A) FormatFault

@@ -1,9 +1,8 @@
 -- What a container is made of, as one list of what is due in a file's order.
-use Rattle.std.specs.Prelude.{ℕ, ◌-◌, List, [], ◌∷◌, ◌++◌, codes, length, Option, Result, Ok, Err}
+use Rattle.std.specs.Prelude.{ℕ, ◌-◌, List, [], ◌∷◌, ◌++◌, codes, length, Result, Ok, Err}
 use Rattle.bast_base.specs.declared.errors.FormatFault.{FormatFault}
 use Rattle.bast_base.specs.declared.errors.Why.{Why}
 use Rattle.bast_base.specs.declared.errors.Why.TheVariants.{BadMagic, BadSection, NotIdentity}
-use Rattle.bast_schema.specs.declared.kind.Kind.{Kind}
 use Rattle.container.specs.declared.layout.Layout.{Layout}
 use Rattle.container.specs.Answers.{◌>>=◌}
 use Rattle.container.specs.Parts.{fixed_at, version_at, counted_at, done_at}

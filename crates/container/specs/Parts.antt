@@ -1,5 +1,5 @@
 -- The parts of a container that are read alike in each section. Places are bytes of the whole list, from 0.
-use Rattle.std.specs.Prelude.{ℕ, zero, suc, ◌+◌, List, [], ◌∷◌, length, drop, slice_range, nat_lt, nat_eq, Result, Ok, Err, if◌then◌else◌}
+use Rattle.std.specs.Prelude.{ℕ, suc, ◌+◌, List, ◌∷◌, length, drop, slice_range, nat_lt, nat_eq, Result, Ok, Err, if◌then◌else◌}
 use Rattle.bast_base.specs.declared.errors.FormatFault.{FormatFault}
 use Rattle.bast_base.specs.declared.errors.Why.{Why}
 use Rattle.bast_base.specs.declared.errors.Why.TheVariants.{BadVersion, Ended, Trailing}

@@ -22,11 +22,19 @@ const VERSION: u32 = 1;
 pub struct Layout {
     pub kinds: KindTable,
     pub strings: StringTable,
+    /// The place of the tree's first byte.
     pub from: u32,
+    /// The place behind the tree's last byte.
     pub to: u32,
 }
 
 /// Reads the container of a file: its two tables, and where its tree lies. The tree is not looked at.
+///
+/// The answer is the file's first fault where it has one: `BadMagic`, `BadVersion`, `BadSection` or `NotIdentity` where
+/// its fixed bytes differ; `Overlong` or `TooBig` at a wrong number; `Ended` at the end of the input or of a section
+/// where a byte is due there or a length goes past it; `UnknownKind`, `NotUtf8` or `Repeated` at an entry, which is
+/// judged in this order once its bytes are there; and `Trailing` at the first byte behind the last entry of a section,
+/// or behind the tree. No memory is taken by a count, only by entries.
 pub fn read_layout<L>(alloc: Global, tape: &Tape<L>, steps: &mut Steps<L>) -> Result<Layout, Halt>
     ensures layout { Answers result (layout_of tape.now) }
     ensures spelled { IfOk result (IsContainer tape.now) }
@@ -37,11 +45,7 @@ pub fn read_layout<L>(alloc: Global, tape: &Tape<L>, steps: &mut Steps<L>) -> Re
 }
 
 // The parts of a container, one after another.
-fn read_parts<L>(
-    alloc: Global,
-    tape: &Tape<L>,
-    steps: &mut Steps<L>,
-) -> Result<Layout, Halt>
+fn read_parts<L>(alloc: Global, tape: &Tape<L>, steps: &mut Steps<L>) -> Result<Layout, Halt>
     ensures layout { Answers result (layout_of tape.now) }
     ensures spelled { IfOk result (IsContainer tape.now) }
     ensures cost { steps.new ≤ steps.old + outside tape.now }

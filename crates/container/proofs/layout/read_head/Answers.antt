@@ -2,7 +2,7 @@ use Rattle.std.proofs.Common.{codes, length, sym, ◌∙◌}
 use Rattle.std.proofs.lemmas.Result.{err_from_is_err_and}
 use Rattle.bast_base.specs.declared.errors.Why.TheVariants.{BadMagic}
 use Rattle.container.specs.Parts.{fixed_at, version_at}
-use Rattle.container.proofs.Answered.{answered, refused}
+use Rattle.container.proofs.Answered.{answered}
 use Rattle.container.proofs.Counted.{version_fails, version_other, version_stands}
 use Rattle.container.proofs.Ranges.{version_lies}
 use Rattle.container.proofs.layout.read_head.Goals as goal

@@ -1,8 +1,6 @@
-use Rattle.std.proofs.Common.{arith, refl, length, sym, ◌∙◌, ap, ◌≡◌, ◌≤◌, ◌<◌, ℕ, ◌-◌}
+use Rattle.std.proofs.Common.{arith, refl, length, ◌∙◌, ◌≡◌}
 use Rattle.std.proofs.lemmas.Result.{err_from_is_err_and}
-use Rattle.bast_base.specs.declared.errors.Halt.TheVariants as halt
-use Rattle.container.specs.Answers.{Answers}
-use Rattle.container.specs.Entries.{entries_at, more_texts}
+use Rattle.container.specs.Entries.{more_texts}
 use Rattle.container.specs.Clauses.{text_entries}
 use Rattle.container.proofs.TableSpelled.{lies_none, table_spelled}
 use Rattle.container.proofs.TableLemmas.{table_start, table_fails, entries_more, entry_fails}
