@@ -1,2 +1,15 @@
+pub mod Added
+pub mod Answered
+pub mod Counted
 pub mod Entries
 pub mod Fields
+pub mod Fixed
+pub mod Fresh
+pub mod LayoutLemmas
+pub mod Named
+pub mod OutsideLemmas
+pub mod Ranges
+pub mod ReadBack
+pub mod Reached
+pub mod TableLemmas
+pub mod TableSpelled

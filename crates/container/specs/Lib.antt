@@ -1,5 +1,12 @@
+pub mod Answers
 pub mod Atoms
+pub mod Clauses
 pub mod Container
+pub mod Entries
 pub mod InFile
+pub mod IsContainer
+pub mod Laws
+pub mod Layout
+pub mod Parts
 pub mod Spelled
 pub mod Tables

@@ -1,6 +1,14 @@
 //! The container of a file: a table of kinds, a table of texts, and the bytes of a tree.
 #![tactic(auto)]
 
+mod laws;
+mod layout;
+mod parts;
+mod tables;
+#[cfg(test)]
+mod tests;
 mod writing;
 
+pub use laws::{container_has_one_reading, container_is_read_back};
+pub use layout::{Layout, read_layout};
 pub use writing::write_file;

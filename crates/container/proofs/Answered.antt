@@ -1,0 +1,14 @@
+-- Answers one after another.
+use Rattle.std.proofs.Common.{◌≡◌, refl, ap, Result, Ok, Err}
+use Rattle.bast_base.specs.declared.errors.FormatFault.{FormatFault}
+use Rattle.container.specs.Answers.{◌>>=◌}
+
+pub answered : {A B : Type 0} (r : Result A FormatFault) (f : A → Result B FormatFault) (x : A) → r ≡ Ok x → (r >>= f) ≡ f x
+answered r f x is = ap (λ q. q >>= f) is
+
+pub refused : {A B : Type 0} (r : Result A FormatFault) (f : A → Result B FormatFault) (e : FormatFault) → r ≡ Err e → (r >>= f) ≡ Err e
+refused r f e is = ap (λ q. q >>= f) is
+
+pub regrouped : {A B C : Type 0} (r : Result A FormatFault) (f : A → Result B FormatFault) (g : B → Result C FormatFault) → ((r >>= f) >>= g) ≡ (r >>= λ x. f x >>= g)
+regrouped (Ok x) f g = refl
+regrouped (Err e) f g = refl

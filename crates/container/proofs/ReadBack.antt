@@ -1,0 +1,227 @@
+-- A container is read as what it is made of.
+use Rattle.std.proofs.Common.{◌≡◌, ℕ, suc, ◌+◌, ◌-◌, ◌<◌, ◌≤◌, ◌^◌, List, [], ◌∷◌, ◌++◌, length, take, drop, slice_range, codes, Option, Ok, Result, append-nil, append_assoc, length-append, refl, sym, ap, ◌∙◌, arith, lit<}
+use Rattle.std.specs.Prelude.{flat_map}
+use Rattle.std.proofs.lemmas.Bool.{eq-eqb}
+use Rattle.std.proofs.lemmas.List.{drop_at, take_at}
+use Rattle.bast_base.specs.declared.errors.FormatFault.{FormatFault}
+use Rattle.bast_base.specs.declared.errors.Why.{Why}
+use Rattle.bast_base.specs.declared.errors.Why.TheVariants.{BadMagic, BadSection, NotIdentity}
+use Rattle.bast_schema.specs.declared.kind.Kind.{Kind}
+use Rattle.bast_schema.specs.Kinds.{kind_name}
+use Rattle.var_numbers.specs.Varnum.{varnum}
+use Rattle.var_numbers.proofs.RangeLemmas.{only-spelled, range-length}
+use Rattle.var_numbers.proofs.VarnumLemmas.{varnum-nonempty}
+use Rattle.container.specs.declared.layout.Layout.{Layout}
+use Rattle.container.specs.Clauses.{head_at, section_at, whole_table}
+use Rattle.container.specs.Container.{container, counted, entry_bytes, grammar, section, strings}
+use Rattle.container.specs.Entries.{Judge, entries_at, entry_at, more_kinds, more_texts, table_at}
+use Rattle.container.specs.IsContainer.{IsFileOf, layout_in}
+use Rattle.container.specs.Layout.{layout_of}
+use Rattle.container.specs.Parts.{agreeing, counted_at, done_at, fixed_at}
+use Rattle.container.specs.Tables.{Tables}
+use Rattle.container.proofs.Counted.{counted_stands, not_less, version_stands}
+use Rattle.container.proofs.Fixed.{fixed_stands}
+use Rattle.container.proofs.Fresh.{Fresh, kinds_fresh, texts_fresh}
+use Rattle.container.proofs.LayoutLemmas.{layout_stands}
+use Rattle.container.proofs.Ranges.{range_split, range_to_end}
+use Rattle.container.proofs.Reached.{behind_head, behind_grammar, behind_kinds, behind_strings, behind_texts, behind_tree}
+
+-- a range begins with a part, which ends at a place
+record Splits (bytes : List ℕ) (at end : ℕ) (part more : List ℕ) (mid : ℕ) : Type 0 where
+  mid_is : mid ≡ at + length part
+  within : mid ≤ end
+  here : slice_range bytes at mid ≡ part
+  rest : slice_range bytes mid end ≡ more
+
+split : (bytes : List ℕ) (at end : ℕ) (part more : List ℕ) → at ≤ end → end ≤ length bytes → slice_range bytes at end ≡ part ++ more → Splits bytes at end part more (at + length part)
+split bytes at end part more order small is =
+    let all : length part + length more ≡ end - at = sym (length-append part more) ∙ sym (ap length is) ∙ range-length bytes at end order small in
+    let mid = at + length part in
+    let two : slice_range bytes at mid ++ slice_range bytes mid end ≡ part ++ more = sym (range_split bytes at mid end (omega arith) (omega arith)) ∙ is in
+    let first : length (slice_range bytes at mid) ≡ length part = range-length bytes at mid (omega arith) (omega arith) ∙ omega arith in
+    record {
+      mid_is = refl;
+      within = omega arith;
+      here = sym (take_at (slice_range bytes at mid) (slice_range bytes mid end) (length part) first) ∙ ap (take (length part)) two ∙ take_at part more (length part) refl;
+      rest = sym (drop_at (slice_range bytes at mid) (slice_range bytes mid end) (length part) first) ∙ ap (drop (length part)) two ∙ drop_at part more (length part) refl;
+    }
+
+agreeing_own : (xs ys : List ℕ) → agreeing xs (xs ++ ys) ≡ length xs
+agreeing_own [] ys = refl
+agreeing_own (x ∷ xs) ys = rw (eq-eqb x x refl) (ap (λ (n : ℕ). suc n) (agreeing_own xs ys))
+
+fixed_read : (bytes due more : List ℕ) (why : Why) (at : ℕ) → slice_range bytes at (length bytes) ≡ due ++ more → fixed_at bytes due why at ≡ Ok (at + length due)
+fixed_read bytes due more why at is =
+    fixed_stands bytes due why at (ap (agreeing due) (sym (range_to_end bytes at) ∙ is) ∙ agreeing_own due more)
+
+done_read : (end at : ℕ) → at ≡ end → Ok tt ≡ done_at end at
+done_read end at is = rw (not_less at end (omega arith)) refl
+
+-- bytes behind their length are found, with what is behind them
+record Found (bytes : List ℕ) (at end : ℕ) (content more : List ℕ) (r : ℕ × ℕ) : Type 0 where
+  is : counted_at bytes end at ≡ Ok r
+  order : r.0 ≤ r.1
+  within : r.1 ≤ end
+  long : r.1 ≡ r.0 + length content
+  content_is : slice_range bytes r.0 r.1 ≡ content
+  rest : slice_range bytes r.1 end ≡ more
+
+find : (bytes : List ℕ) (at end : ℕ) (content more : List ℕ) → at ≤ end → end ≤ length bytes → length bytes < 2 ^ 32 → slice_range bytes at end ≡ counted content ++ more
+    → Found bytes at end content more (at + length (varnum (length content)), at + length (varnum (length content)) + length content)
+find bytes at end content more order small few is =
+    let number = varnum (length content) in
+    let from = at + length number in
+    let front : slice_range bytes at end ≡ number ++ (content ++ more) = is ∙ append_assoc number content more in
+    let s = split bytes at end number (content ++ more) order small front in
+    let t = split bytes from end content more s.within small s.rest in
+    let fits : length content < 2 ^ 32 = omega (arith, t.within) in
+    record {
+      is = sym (counted_stands bytes at end (length content) from (sym (only-spelled (slice_range bytes at end) at (length content) (content ++ more) fits front)) t.within);
+      order = omega arith;
+      within = t.within;
+      long = refl;
+      content_is = t.here;
+      rest = t.rest;
+    }
+
+-- a section is found, with what is behind it
+record Section (bytes title : List ℕ) (at : ℕ) (content more : List ℕ) (r : ℕ × ℕ) : Type 0 where
+  is : section_at bytes title at ≡ Ok r
+  order : r.0 ≤ r.1
+  within : r.1 ≤ length bytes
+  long : r.1 ≡ r.0 + length content
+  content_is : slice_range bytes r.0 r.1 ≡ content
+  rest : slice_range bytes r.1 (length bytes) ≡ more
+
+abbrev content_from : List ℕ → ℕ → List ℕ → ℕ
+content_from title at content = at + length title + length (codes "identity;") + length (varnum (length content))
+
+section_read : (bytes title : List ℕ) (at : ℕ) (content more : List ℕ) → at ≤ length bytes → length bytes < 2 ^ 32 → slice_range bytes at (length bytes) ≡ section title content ++ more
+    → Section bytes title at content more (content_from title at content, content_from title at content + length content)
+section_read bytes title at content more order few is =
+    let form = codes "identity;" in
+    let front : slice_range bytes at (length bytes) ≡ title ++ (form ++ (counted content ++ more)) = is ∙ append_assoc (title ++ form) (counted content) more ∙ append_assoc title form (counted content ++ more) in
+    let s = split bytes at (length bytes) title (form ++ (counted content ++ more)) order (omega arith) front in
+    let t = split bytes (at + length title) (length bytes) form (counted content ++ more) s.within (omega arith) s.rest in
+    let f = find bytes (at + length title + length form) (length bytes) content more t.within (omega arith) few t.rest in
+    record {
+      is = rw (fixed_read bytes title _ BadSection at front) (rw (fixed_read bytes form _ NotIdentity (at + length title) s.rest) f.is);
+      order = f.order;
+      within = f.within;
+      long = f.long;
+      content_is = f.content_is;
+      rest = f.rest;
+    }
+
+entry_read : {A : Type 0} (more : Judge A) (bytes : List ℕ) (end : ℕ) (xs : List A) (y : A) (part : List ℕ) (at : ℕ) (r : ℕ × ℕ) → counted_at bytes end at ≡ Ok r → slice_range bytes r.0 r.1 ≡ part → more xs part r.0 ≡ Ok (xs ++ y ∷ [])
+    → entry_at more bytes end xs at ≡ Ok (xs ++ y ∷ [], r.1)
+entry_read more bytes end xs y part at r is content joins = rw (is, content, joins) refl
+
+entries_read : {A : Type 0} (more : Judge A) (bytes_of : A → List ℕ) (bytes : List ℕ) (end : ℕ) (xs ys : List A) (at : ℕ) → Fresh more bytes_of xs ys → at ≤ end → end ≤ length bytes → length bytes < 2 ^ 32
+    → slice_range bytes at end ≡ flat_map (λ y. counted (bytes_of y)) ys → entries_at more bytes end (length ys) xs at ≡ Ok (xs ++ ys, end)
+entries_read {A} more bytes_of bytes end xs [] at fresh order small few is =
+    let none : end - at ≡ 0 = sym (range-length bytes at end order small) ∙ ap length is in
+    let last : at ≡ end = omega arith in
+    rw (append-nil, last) refl
+entries_read {A} more bytes_of bytes end xs (y ∷ ys) at fresh order small few is =
+    let f = find bytes at end (bytes_of y) (flat_map (λ y. counted (bytes_of y)) ys) order small few is in
+    let from = at + length (varnum (length (bytes_of y))) in
+    let to = from + length (bytes_of y) in
+    let first = entry_read more bytes end xs y (bytes_of y) at (from, to) f.is f.content_is (fresh.0 from) in
+    let next = entries_read more bytes_of bytes end (xs ++ y ∷ []) ys to fresh.1 f.within small few f.rest in
+    rw first (next ∙ ap (λ (zs : List A). Ok (zs, end)) (append_assoc xs (y ∷ []) ys))
+
+few_entries : {A : Type 0} (bytes_of : A → List ℕ) (ys : List A) → length ys ≤ length (flat_map (λ y. counted (bytes_of y)) ys)
+few_entries bytes_of [] = omega arith
+few_entries bytes_of (y ∷ ys) =
+    let rest = few_entries bytes_of ys in
+    let some : 1 ≤ length (varnum (length (bytes_of y))) = varnum-nonempty (length (bytes_of y)) in
+    let one : length (counted (bytes_of y)) ≡ length (varnum (length (bytes_of y))) + length (bytes_of y) = length-append (varnum (length (bytes_of y))) (bytes_of y) in
+    omega (arith, length-append (counted (bytes_of y)) (flat_map (λ y. counted (bytes_of y)) ys))
+
+table_read : {A : Type 0} (more : Judge A) (bytes_of : A → List ℕ) (bytes : List ℕ) (from to : ℕ) (ys : List A) → Fresh more bytes_of [] ys → from ≤ to → to ≤ length bytes → length bytes < 2 ^ 32
+    → slice_range bytes from to ≡ varnum (length ys) ++ flat_map (λ y. counted (bytes_of y)) ys → whole_table more bytes to from ≡ Ok ys
+unfolding table_at
+table_read more bytes_of bytes from to ys fresh order small few is =
+    let entries = flat_map (λ y. counted (bytes_of y)) ys in
+    let s = split bytes from to (varnum (length ys)) entries order small is in
+    let long : length entries ≡ to - (from + length (varnum (length ys))) = ap length (sym s.rest) ∙ range-length bytes _ to s.within small in
+    let fits : length ys < 2 ^ 32 = omega (arith, few_entries bytes_of ys) in
+    let count = only-spelled (slice_range bytes from to) from (length ys) entries fits is in
+    let all = entries_read more bytes_of bytes to [] ys (from + length (varnum (length ys))) fresh s.within small few s.rest in
+    rw (count, all) (rw (← done_read to to refl) refl)
+
+abbrev spanning : ℕ → ℕ → ℕ × ℕ
+spanning a b = (a, b)
+
+same_range : (a b c d : ℕ) → a ≡ c → b ≡ d → spanning a b ≡ spanning c d
+same_range a b c d p q = cc
+
+pub layout_read : (s : Tables) (tree bytes : List ℕ) → IsFileOf s tree bytes → length bytes < 2 ^ 32 → (layout_of bytes ≡ Ok (layout_in s tree bytes)) × (slice_range bytes (length bytes - length tree) (length bytes) ≡ tree)
+unfolding container
+layout_read s tree bytes file few =
+    let end = length bytes in
+    let magic = codes "BINJS" in
+    let gs = section (codes "[GRAMMAR]") (grammar s.kinds) in
+    let ss = section (codes "[STRINGS]") (strings s.texts) in
+    let ts = section (codes "[TREE]") tree in
+    let grouped : (((magic ++ varnum 1) ++ gs) ++ ss) ++ ts ≡ magic ++ (varnum 1 ++ (gs ++ (ss ++ (ts ++ [])))) =
+    append_assoc ((magic ++ varnum 1) ++ gs) ss ts ∙ append_assoc (magic ++ varnum 1) gs (ss ++ ts) ∙ append_assoc magic (varnum 1) (gs ++ (ss ++ ts))
+    ∙ ap (λ (xs : List ℕ). magic ++ (varnum 1 ++ (gs ++ (ss ++ xs)))) (sym (append-nil ts)) in
+    let front : slice_range bytes 0 end ≡ magic ++ (varnum 1 ++ (gs ++ (ss ++ (ts ++ [])))) = range_to_end bytes 0 ∙ file.spelling ∙ grouped in
+    let m = split bytes 0 end magic _ (omega arith) (omega arith) front in
+    let v = split bytes (0 + length magic) end (varnum 1) _ m.within (omega arith) m.rest in
+    let head = 0 + length magic + length (varnum 1) in
+    let one = only-spelled (slice_range bytes (0 + length magic) end) (0 + length magic) 1 _ (lit< tt) m.rest in
+    let at_head : Ok head ≡ head_at bytes = sym (rw (fixed_read bytes magic _ BadMagic 0 front) (version_stands bytes (0 + length magic) 1 head (sym one) refl)) in
+    let g = section_read bytes (codes "[GRAMMAR]") head (grammar s.kinds) (ss ++ (ts ++ [])) v.within few v.rest in
+    let gf = content_from (codes "[GRAMMAR]") head (grammar s.kinds) in
+    let gt = gf + length (grammar s.kinds) in
+    let st = section_read bytes (codes "[STRINGS]") gt (strings s.texts) (ts ++ []) g.within few g.rest in
+    let sf = content_from (codes "[STRINGS]") gt (strings s.texts) in
+    let se = sf + length (strings s.texts) in
+    let t = section_read bytes (codes "[TREE]") se tree [] st.within few st.rest in
+    let tf = content_from (codes "[TREE]") se tree in
+    let to = tf + length tree in
+    let none : end - to ≡ 0 = sym (range-length bytes to end t.within (omega arith)) ∙ ap length t.rest in
+    let within : to ≤ end = t.within in
+    let last : to ≡ end = omega arith in
+    let first : tf ≡ end - length tree = omega arith in
+    let kinds = table_read more_kinds kind_name bytes gf gt s.kinds (kinds_fresh [] s.kinds file.distinct_kinds) g.order g.within few g.content_is in
+    let texts = table_read more_texts entry_bytes bytes sf se s.texts (texts_fresh [] s.texts file.distinct_texts file.entries) st.order st.within few st.content_is in
+    let at_kinds = behind_grammar (behind_head bytes head at_head) (gf, gt) (sym g.is) in
+    let at_strings = behind_kinds at_kinds s.kinds kinds in
+    let at_texts = behind_strings at_strings (sf, se) (sym st.is) in
+    let at_tree = behind_texts at_texts s.texts texts in
+    let whole = behind_tree at_tree (tf, to) (sym t.is) in
+    let layout = layout_stands bytes _ whole (done_read end to last) in
+    let content : slice_range bytes tf to ≡ tree = t.content_is in (
+      layout ∙ ap (λ (p : ℕ × ℕ). Ok (record { kinds = s.kinds; strings = s.texts; from = p.0; to = p.1 })) (same_range tf to (end - length tree) end first last),
+      rw (← first, ← last) content,
+    )
+
+record SameLayout (s t : Tables) (x y bytes : List ℕ) : Type 0 where
+  kinds : s.kinds ≡ t.kinds
+  texts : s.texts ≡ t.texts
+  from : length bytes - length x ≡ length bytes - length y
+
+abbrev answer_of : Layout → Result Layout FormatFault
+answer_of l = Ok l
+
+same_layout : (s t : Tables) (x y bytes : List ℕ) → answer_of (layout_in s x bytes) ≡ answer_of (layout_in t y bytes) → SameLayout s t x y bytes
+same_layout s t x y bytes is =
+    let e : layout_in s x bytes ≡ layout_in t y bytes = cc in
+    record { kinds = ap (λ (l : Layout). l.kinds) e; texts = ap (λ (l : Layout). l.strings) e; from = ap (λ (l : Layout). l.from) e }
+
+abbrev tables_of : List Kind → List (Option (List ℕ)) → Tables
+tables_of ks ts = record { kinds = ks; texts = ts }
+
+same_tables : (a b : List Kind) (c d : List (Option (List ℕ))) → a ≡ b → c ≡ d → tables_of a c ≡ tables_of b d
+same_tables a b c d p q = ap (λ (ks : List Kind). tables_of ks c) p ∙ ap (tables_of b) q
+
+pub one_reading : (s t : Tables) (x y bytes : List ℕ) → IsFileOf s x bytes → IsFileOf t y bytes → length bytes < 2 ^ 32 → (s ≡ t) × (x ≡ y)
+one_reading s t x y bytes left right few =
+    let l = layout_read s x bytes left few in
+    let r = layout_read t y bytes right few in
+    let same = same_layout s t x y bytes (sym l.0 ∙ r.0) in
+    (same_tables s.kinds t.kinds s.texts t.texts same.kinds same.texts, sym l.1 ∙ ap (λ (n : ℕ). slice_range bytes n (length bytes)) same.from ∙ r.1)

@@ -1,0 +1,38 @@
+use Rattle.std.proofs.Common.{arith, refl, length, ◌∙◌, ◌≡◌}
+use Rattle.std.proofs.lemmas.Result.{err_from_is_err_and}
+use Rattle.container.specs.Entries.{more_kinds}
+use Rattle.container.specs.Clauses.{kind_entries}
+use Rattle.container.proofs.TableSpelled.{lies_none, table_spelled}
+use Rattle.container.proofs.TableLemmas.{table_start, table_fails, entries_more}
+use Rattle.container.proofs.tables.read_kinds.Goals as goal
+
+pub returns-in_err-count-clause-exact : goal.returns-in_err-count-clause-exact
+returns-in_err-count-clause-exact g c =
+    let r = err_from_is_err_and c.from_residual.result c.from_residual.ensures.1 in
+    rw (r.1, r.2) (table_fails more_kinds c.args.tape.now c.args.to c.args.from _ c.in_err-count.ensures.exact)
+
+pub entries-init : goal.entries-init
+entries-init g c = (
+  rw c.new-kinds.ensures (table_start more_kinds c.args.tape.now c.args.to c.args.from c.in_ok-count.count c.in_ok-count.start c.in_ok-count.ensures.exact),
+  omega (arith, c.in_ok-count.ensures.spelled.within),
+  omega (arith, c.in_ok-count.ensures.spelled.ahead),
+  omega (arith, c.in_ok-count.ensures.cost, c.in_ok-count.ensures.spelled.ahead),
+  rw c.new-kinds.ensures refl,
+  rw c.new-kinds.ensures (lies_none c.args.tape.now c.in_ok-count.start c.args.to c.in_ok-count.ensures.spelled.within),
+)
+
+pub entries-preserved : goal.entries-preserved
+entries-preserved g c = (
+  entries_more more_kinds c.args.tape.now c.args.to c.in_ok-count.count c.entries.counter c.entries.kinds c.entries.place c.read_kind.new.kinds c.in_ok-place.place c.entries-test.true c.in_ok-place.ensures.exact
+      ∙ c.entries.invariant.0,
+  omega (arith, c.in_ok-place.ensures.ahead.1),
+  omega (arith, c.in_ok-place.ensures.ahead.0),
+  omega (arith, c.in_ok-place.ensures.cost, c.in_ok-place.ensures.ahead.0),
+  c.in_ok-place.ensures.spelled.count ∙ omega arith,
+  c.in_ok-place.ensures.spelled.lies c.in_ok-count.start c.entries.invariant.5,
+)
+
+pub returns-clause-spelled : goal.returns-clause-spelled
+returns-clause-spelled g c =
+    let all : length c.entries.kinds ≡ c.in_ok-count.count = omega arith in
+    table_spelled kind_entries c.args.tape.now c.args.from c.args.to c.in_ok-count.count c.in_ok-count.start c.entries.kinds c.entries.place c.in_ok-count.ensures.spelled c.entries.invariant.5 all c.in_ok-check_end.ensures
