@@ -11,7 +11,7 @@ use Rattle.bast_schema.specs.View.{datum, data_of}
 use Rattle.bast_schema.specs.declared.node.Value.{Value}
 use Rattle.bast_schema.proofs.Lists.{count_data_of, data_of_drop}
 use Rattle.var_numbers.specs.Varnum.{varnum}
-use Rattle.container.specs.Atoms.{Atom, atoms_of, atoms_of_fields, atoms_of_items}
+use Rattle.container.specs.Atoms.{atoms_of, atoms_of_fields, atoms_of_items}
 use Rattle.container.specs.Spelled.{framed, spelled_at, spelled_fields, spelled_items}
 use Rattle.container.specs.Tables.{Tables}
 

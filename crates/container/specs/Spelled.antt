@@ -1,9 +1,8 @@
 -- The bytes that spell a tree over two tables: one of kinds, one of texts.
-use Rattle.std.specs.Prelude.{ℕ, Bool, List, [], ◌∷◌, ◌++◌, length, Option, None, if◌then◌else◌}
+use Rattle.std.specs.Prelude.{ℕ, List, [], ◌∷◌, ◌++◌, length, None, if◌then◌else◌}
 use Rattle.std.specs.Int.{w64, to_be_bytes}
 use Rattle.var_numbers.specs.Varnum.{varnum}
 use Rattle.var_numbers.specs.Pattern.{pattern}
-use Rattle.bast_schema.specs.declared.kind.Kind.{Kind}
 use Rattle.bast_schema.specs.declared.kind.Kind.TheVariants.{Null}
 use Rattle.bast_schema.specs.declared.kind.FieldType.{FieldType}
 use Rattle.bast_schema.specs.declared.kind.FieldType.TheVariants as field

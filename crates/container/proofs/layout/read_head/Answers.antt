@@ -11,18 +11,18 @@ pub returns-in_err-found-clause-exact : goal.returns-in_err-found-clause-exact
 returns-in_err-found-clause-exact g c =
     let r = err_from_is_err_and c.from_residual-in_err-found.result c.from_residual-in_err-found.ensures.1 in
     let e = answered (fixed_at c.args.tape.now (codes "BINJS") BadMagic 0) (version_at c.args.tape.now) c.in_ok-at.at (sym c.in_ok-at.ensures.exact) in
-    rw (r.1, r.2) (sym (e ∙ version_fails c.args.tape.now c.in_ok-at.at _ (rw c.len.ensures at c.in_err-found.ensures.exact)))
+    rw (r.1, r.2) (sym (e ∙ version_fails c.args.tape.now c.in_ok-at.at _ (rw c.len.ensures.count at c.in_err-found.ensures.exact)))
 
 pub returns-then-found-ne-VERSION-clause-exact : goal.returns-then-found-ne-VERSION-clause-exact
 returns-then-found-ne-VERSION-clause-exact g c =
     let e = answered (fixed_at c.args.tape.now (codes "BINJS") BadMagic 0) (version_at c.args.tape.now) c.in_ok-at.at (sym c.in_ok-at.ensures.exact) in
-    sym (e ∙ version_other c.args.tape.now c.in_ok-at.at c.in_ok-found.found c.in_ok-found.next (rw c.len.ensures at c.in_ok-found.ensures.exact) c.if-found-ne-VERSION.true)
+    sym (e ∙ version_other c.args.tape.now c.in_ok-at.at c.in_ok-found.found c.in_ok-found.next (rw c.len.ensures.count at c.in_ok-found.ensures.exact) c.if-found-ne-VERSION.true)
 
 pub returns-clause-exact : goal.returns-clause-exact
 returns-clause-exact g c =
     let e = answered (fixed_at c.args.tape.now (codes "BINJS") BadMagic 0) (version_at c.args.tape.now) c.in_ok-at.at (sym c.in_ok-at.ensures.exact) in
-    sym (e ∙ version_stands c.args.tape.now c.in_ok-at.at c.in_ok-found.found c.in_ok-found.next (rw c.len.ensures at c.in_ok-found.ensures.exact) c.if-found-ne-VERSION.false)
+    sym (e ∙ version_stands c.args.tape.now c.in_ok-at.at c.in_ok-found.found c.in_ok-found.next (rw c.len.ensures.count at c.in_ok-found.ensures.exact) c.if-found-ne-VERSION.false)
 
 pub returns-clause-spelled : goal.returns-clause-spelled
 returns-clause-spelled g c =
-    version_lies c.args.tape.now (codes "BINJS") 0 c.in_ok-at.at (length c.args.tape.now) c.in_ok-found.found c.in_ok-found.next c.in_ok-at.ensures.spelled (rw c.len.ensures at c.in_ok-found.ensures.spelled) c.if-found-ne-VERSION.false
+    version_lies c.args.tape.now (codes "BINJS") 0 c.in_ok-at.at (length c.args.tape.now) c.in_ok-found.found c.in_ok-found.next c.in_ok-at.ensures.spelled (rw c.len.ensures.count at c.in_ok-found.ensures.spelled) c.if-found-ne-VERSION.false

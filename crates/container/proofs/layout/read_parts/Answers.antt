@@ -104,7 +104,7 @@ returns-in_err-check_end-clause-layout g c =
     let at_tree = behind_texts at_texts c.in_ok-strings.strings c.in_ok-strings.ensures.exact in
     let whole = behind_tree at_tree (c.in_ok-from-3.from, c.in_ok-from-3.to) c.in_ok-from-3.ensures.exact in
     let r = err_from_is_err_and c.from_residual-in_err-check_end.result c.from_residual-in_err-check_end.ensures.1 in
-    rw (r.1, r.2) (layout_left c.args.tape.now _ _ whole (c.in_err-check_end.ensures ∙ ap (λ (n : ℕ). done_at n c.in_ok-from-3.to) c.len.ensures))
+    rw (r.1, r.2) (layout_left c.args.tape.now _ _ whole (c.in_err-check_end.ensures ∙ ap (λ (n : ℕ). done_at n c.in_ok-from-3.to) c.len.ensures.count))
 
 pub returns-in_err-check_end-clause-cost : goal.returns-in_err-check_end-clause-cost
 returns-in_err-check_end-clause-cost g c =
@@ -124,7 +124,7 @@ returns-clause-layout g c =
     let at_texts = behind_strings at_strings (c.in_ok-from-2.from, c.in_ok-from-2.to) c.in_ok-from-2.ensures.exact in
     let at_tree = behind_texts at_texts c.in_ok-strings.strings c.in_ok-strings.ensures.exact in
     let whole = behind_tree at_tree (c.in_ok-from-3.from, c.in_ok-from-3.to) c.in_ok-from-3.ensures.exact in
-    layout_stands c.args.tape.now _ whole (c.in_ok-check_end.ensures ∙ ap (λ (n : ℕ). done_at n c.in_ok-from-3.to) c.len.ensures)
+    layout_stands c.args.tape.now _ whole (c.in_ok-check_end.ensures ∙ ap (λ (n : ℕ). done_at n c.in_ok-from-3.to) c.len.ensures.count)
 
 pub returns-clause-cost : goal.returns-clause-cost
 returns-clause-cost g c =
@@ -146,4 +146,4 @@ returns-clause-spelled g c =
     c.in_ok-head.ensures.spelled
     c.in_ok-from.ensures.spelled c.in_ok-kinds.ensures.spelled c.in_ok-kinds.ensures.exact
     c.in_ok-from-2.ensures.spelled c.in_ok-strings.ensures.spelled c.in_ok-strings.ensures.exact
-    c.in_ok-from-3.ensures.spelled (c.in_ok-check_end.ensures ∙ ap (λ (n : ℕ). done_at n c.in_ok-from-3.to) c.len.ensures)
+    c.in_ok-from-3.ensures.spelled (c.in_ok-check_end.ensures ∙ ap (λ (n : ℕ). done_at n c.in_ok-from-3.to) c.len.ensures.count)

@@ -5,7 +5,7 @@ use Rattle.container.proofs.parts.read_fixed.Goals as goal
 
 pub returns-then-place-end-clause-exact : goal.returns-then-place-end-clause-exact
 returns-then-place-end-clause-exact g c =
-    rw (c.ended.ensures, c.len-end.ensures) (ends_there c.args.tape.now c.args.due.now c.args.why c.args.at c.due.byte-index c.due.place c.due.invariant.0 c.due-test.true (omega arith))
+    rw (c.ended.ensures, c.len-end.ensures.count) (ends_there c.args.tape.now c.args.due.now c.args.why c.args.at c.due.byte-index c.due.place c.due.invariant.0 c.due-test.true (omega arith))
 
 pub returns-then-byte-clause-exact : goal.returns-then-byte-clause-exact
 returns-then-byte-clause-exact g c =
