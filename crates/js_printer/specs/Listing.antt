@@ -1,74 +1,74 @@
--- The listing of a tree: a line for each node and each field.
-use Rattle.std.specs.Prelude.{ℕ, Bool, true, false, List, [], ◌∷◌, ◌++◌, ◌+◌, ◌*◌, ◌&&◌, min, replicate, codes, decimal, get_or, Option, None, is_some, unwrap_or, if◌then◌else◌}
+-- The listing of a tree without windows: a line for each node and each field.
+use Rattle.std.specs.Prelude.{ℕ, List, [], ◌∷◌, ◌++◌, ◌+◌, ◌*◌, min, replicate, codes, decimal, get_or, Option, if◌then◌else◌}
+use Rattle.std.specs.List.{flat_map}
 use Rattle.bast_schema.specs.declared.kind.FieldType.{FieldType}
 use Rattle.bast_schema.specs.declared.kind.FieldType.TheVariants as field
 use Rattle.bast_schema.specs.Choices.{choice_texts}
 use Rattle.bast_schema.specs.Fields.{fields, field_names}
 use Rattle.bast_schema.specs.Kinds.{kind_name}
-use Rattle.bast_schema.specs.Tree.{Tree, branch, Datum, child, absent, listed as list_of, flag, index, whole, name, no_name, choice, window, Data, none, more, count}
+use Rattle.bast_schema.specs.Tree.{Tree, branch, Datum, child, absent, listed as list_of, flag, index, whole, name, no_name, choice, Data, none, more, count}
+use Rattle.js_printer.specs.Names.{text_of}
 use Rattle.js_printer.specs.StringForm.{string_form}
 
--- the text of a name, where the texts are those of a string table
-abbrev pub named : List (Option (List ℕ)) → ℕ → List ℕ
-named texts n = unwrap_or (get_or texts n None) []
+-- a line: the depth at which it stands, and its text
+pub record Line : Type 0 where
+  pub depth : ℕ
+  pub text : List ℕ
 
--- whether each name of a tree is a text of the table
-abbrev mutual
-  pub is_named : List (Option (List ℕ)) → Tree → Bool
-  is_named texts (branch k ds) = is_named_in texts ds
+abbrev pub line : ℕ → List ℕ → Line
+line d text = record { depth = d; text = text }
 
-  pub is_named_at : List (Option (List ℕ)) → Datum → Bool
-  is_named_at texts (child t) = is_named texts t
-  is_named_at texts (list_of ds) = is_named_in texts ds
-  is_named_at texts (name n) = is_some (get_or texts n None)
-  is_named_at texts _ = true
-
-  pub is_named_in : List (Option (List ℕ)) → Data → Bool
-  is_named_in texts none = true
-  is_named_in texts (more d ds) = is_named_at texts d && is_named_in texts ds
-
--- the spaces that a line at a depth begins with
+-- the spaces before a line: two for each level of depth, up to 16 levels
 abbrev pub indent : ℕ → List ℕ
-indent depth = replicate (2 * min depth 16) 32
+indent d = replicate (2 * min d 16) 32
+
+abbrev pub shown : Line → List ℕ
+shown l = indent l.depth ++ l.text ++ codes "\n"
+
+-- the lines, one after another
+abbrev pub shown_all : List Line → List ℕ
+shown_all = flat_map shown
 
 -- the text of a choice of a field
 abbrev pub chosen : FieldType → ℕ → List ℕ
 chosen (field.Choice e) n = get_or (choice_texts e) n []
 chosen _ n = []
 
--- the lines of a tree, from its root's kind on, where the root stands at a depth
+-- a value that is neither a node nor a list
+abbrev pub value_text : List (Option (List ℕ)) → FieldType → Datum → List ℕ
+value_text texts t (flag b) = if b then codes "true" else codes "false"
+value_text texts t (index n) = decimal n
+value_text texts t (whole n) = decimal n
+value_text texts t (name n) = string_form (text_of texts n)
+value_text texts t no_name = codes "none"
+value_text texts t (choice n) = string_form (chosen t n)
+value_text texts t _ = []
+
 abbrev mutual
-  pub listed_node : List (Option (List ℕ)) → ℕ → Tree → List ℕ
-  listed_node texts depth (branch k ds) = kind_name k ++ codes "\n" ++ listed_fields texts (depth + 1) (fields k) (field_names k) ds
+  -- a node at a depth, whose line begins with a head: its kind, and its fields one deeper
+  pub node_lines : List (Option (List ℕ)) → ℕ → List ℕ → Tree → List Line
+  node_lines texts d head (branch k ds) = line d (head ++ kind_name k) ∷ fields_lines texts (d + 1) (fields k) (field_names k) ds
 
-  -- the fields of a node: each is its name and its value
-  pub listed_fields : List (Option (List ℕ)) → ℕ → List FieldType → List (List ℕ) → Data → List ℕ
-  listed_fields texts depth (t ∷ ts) (n ∷ ns) (more d ds) = indent depth ++ n ++ listed_value texts depth t d ++ listed_fields texts depth ts ns ds
-  listed_fields texts depth _ _ _ = []
+  pub fields_lines : List (Option (List ℕ)) → ℕ → List FieldType → List (List ℕ) → Data → List Line
+  fields_lines texts d (t ∷ ts) (n ∷ ns) (more v ds) = field_lines texts d t n v ++ fields_lines texts d ts ns ds
+  fields_lines texts d _ _ _ = []
 
-  -- the value of a field, where the field stands at a depth
-  pub listed_value : List (Option (List ℕ)) → ℕ → FieldType → Datum → List ℕ
-  listed_value texts depth t (child c) = codes ": " ++ listed_node texts depth c
-  listed_value texts depth t absent = codes ": none\n"
-  listed_value texts depth t (list_of ds) = codes ": [" ++ decimal (count ds) ++ codes "]\n" ++ listed_items texts (depth + 1) ds
-  listed_value texts depth t (flag b) = codes " = " ++ (if b then codes "true" else codes "false") ++ codes "\n"
-  listed_value texts depth t (index n) = codes " = " ++ decimal n ++ codes "\n"
-  listed_value texts depth t (whole n) = codes " = " ++ decimal n ++ codes "\n"
-  listed_value texts depth t (name n) = codes " = " ++ string_form (named texts n) ++ codes "\n"
-  listed_value texts depth t no_name = codes " = none\n"
-  listed_value texts depth t (choice n) = codes " = " ++ string_form (chosen t n) ++ codes "\n"
-  listed_value texts depth t (window from to) = []
+  -- a field of a type, by its name and its value
+  pub field_lines : List (Option (List ℕ)) → ℕ → FieldType → List ℕ → Datum → List Line
+  field_lines texts d t n (child c) = node_lines texts d (n ++ codes ": ") c
+  field_lines texts d t n absent = line d (n ++ codes ": none") ∷ []
+  field_lines texts d t n (list_of ds) = line d (n ++ codes ": [" ++ decimal (count ds) ++ codes "]") ∷ items_lines texts (d + 1) ds
+  field_lines texts d t n v = line d (n ++ codes " = " ++ value_text texts t v) ∷ []
 
-  -- the items of a list, where they stand at a depth
-  pub listed_items : List (Option (List ℕ)) → ℕ → Data → List ℕ
-  listed_items texts depth none = []
-  listed_items texts depth (more d ds) = indent depth ++ listed_item texts depth d ++ listed_items texts depth ds
+  pub items_lines : List (Option (List ℕ)) → ℕ → Data → List Line
+  items_lines texts d none = []
+  items_lines texts d (more v ds) = item_lines texts d v ++ items_lines texts d ds
 
-  -- an item: a node, or a hole
-  pub listed_item : List (Option (List ℕ)) → ℕ → Datum → List ℕ
-  listed_item texts depth (child c) = listed_node texts depth c
-  listed_item texts depth _ = codes "none\n"
+  -- an item of a list: a node, or a hole
+  pub item_lines : List (Option (List ℕ)) → ℕ → Datum → List Line
+  item_lines texts d (child c) = node_lines texts d [] c
+  item_lines texts d _ = line d (codes "none") ∷ []
 
--- the listing of a tree
+-- the listing of a tree, where the texts are those of a string table
 abbrev pub listed : List (Option (List ℕ)) → Tree → List ℕ
-listed texts t = listed_node texts 0 t
+listed texts t = shown_all (node_lines texts 0 [] t)
