@@ -1,0 +1,10 @@
+//! Trees and texts as text: the listing of a tree, and the string form of a text.
+#![tactic(auto)]
+
+mod listing;
+mod strings;
+#[cfg(test)]
+mod tests;
+
+pub use listing::list_tree;
+pub use strings::string_form;
