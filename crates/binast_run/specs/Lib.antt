@@ -1,8 +1,10 @@
 pub mod File
 pub mod FirstSource
 pub mod Laws
+pub mod Lines
 pub mod Outcome
 pub mod Output
+pub mod Reading
 pub mod Result
 pub mod SourceTree
 pub mod Status

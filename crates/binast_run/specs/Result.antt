@@ -1,13 +1,20 @@
 -- What the program answers to words and an input.
 use Rattle.std.specs.Prelude.{◌≡◌, ℕ, ◌≤◌, List, [], length, codes, Option, Some, None, IfSome}
 use Rattle.std.specs.Io.KnownBytes.{Appends}
+use Rattle.bast_base.specs.declared.errors.FormatFault.{FormatFault}
+use Rattle.bast_schema.specs.Tree.{Tree}
+use Rattle.container.specs.declared.layout.Layout.{Layout}
+use Rattle.js_printer.specs.Listing.{listed}
 use Rattle.bast_base.specs.Causes.{Rose}
 use Rattle.binast_run.specs.declared.command.Command.{Command}
-use Rattle.binast_run.specs.declared.command.Command.TheVariants.{EncodeEager}
+use Rattle.binast_run.specs.declared.command.Command.TheVariants.{EncodeEager, Decode, Check}
 use Rattle.binast_run.specs.declared.status.Fault.TheVariants.{BadWords}
 use Rattle.binast_run.specs.File.{file, nothing}
+use Rattle.binast_run.specs.FirstKinds.{first_other}
 use Rattle.binast_run.specs.FirstSource.{first_source}
+use Rattle.binast_run.specs.Lines.{accepted_line, fault_line, not_yet_line}
 use Rattle.binast_run.specs.Output.{AppendsFront}
+use Rattle.binast_run.specs.Reading.{first_fault, IsFileOfScript}
 use Rattle.binast_run.specs.SourceTree.{source_tree}
 use Rattle.binast_run.specs.Status.{line, line_of}
 use Rattle.binast_run.specs.Words.{command_in}
@@ -17,33 +24,65 @@ pub record Answer : Type 0 where
   pub status : ℕ
   pub text : List ℕ
 
+abbrev pub output : List ℕ → Answer
+output text = record { status = 0; text = text }
+
+abbrev pub refusal : List ℕ → Answer
+refusal text = record { status = 1; text = text }
+
 -- the answer to a source
 abbrev pub answer_to : Option ℕ → Answer
-answer_to None = record { status = 1; text = line (codes "source: NotYet") }
-answer_to (Some n) = record { status = 0; text = file nothing (source_tree n) }
+answer_to None = refusal (line (codes "source: NotYet"))
+answer_to (Some n) = output (file nothing (source_tree n))
 
--- the answer of a command
-abbrev pub answer_of : Option Command → List ℕ → Answer
-answer_of None input = record { status = 2; text = line_of BadWords }
-answer_of (Some EncodeEager) input = answer_to (first_source input)
+-- an output, but where a node has another kind than the first ones
+abbrev pub unless_other : Option ℕ → List ℕ → Answer
+unless_other (Some node) text = refusal (not_yet_line node)
+unless_other None text = output text
 
-abbrev pub result_of : List (List ℕ) → List ℕ → Answer
-result_of words input = answer_of (command_in words) input
+-- The answer to a file, where `text` makes the output of its tree: the line of its first fault, or what its tree gives.
+pub data AnswersFile (bytes : List ℕ) (text : Layout → Tree → List ℕ) : Answer → Type 0 where
+  faulty : (f : FormatFault) → first_fault bytes ≡ Some f → AnswersFile bytes text (refusal (fault_line f))
+  read : (l : Layout) (t : Tree) → IsFileOfScript bytes l t → AnswersFile bytes text (unless_other (first_other t) (text l t))
+
+-- the answer of a command to its input
+abbrev pub AnswersInput : Command → List ℕ → Answer → Type 0
+AnswersInput EncodeEager input a = a ≡ answer_to (first_source input)
+AnswersInput Decode input a = AnswersFile input (λ l t. listed l.strings t) a
+AnswersInput Check input a = AnswersFile input (λ l t. accepted_line (length input)) a
+
+-- the answer of words, which is one without a command too
+abbrev pub AnswersWords : Option Command → List ℕ → Answer → Type 0
+AnswersWords None input a = a ≡ record { status = 2; text = line_of BadWords }
+AnswersWords (Some c) input a = AnswersInput c input a
 
 -- how many bytes the command may look at
 abbrev pub looked_by : Option Command → List ℕ → ℕ
 looked_by None input = 0
-looked_by (Some EncodeEager) input = length input
+looked_by (Some command) input = length input
 
 abbrev pub looked : List (List ℕ) → List ℕ → ℕ
 looked words input = looked_by (command_in words) input
 
--- the input is all that was left, nothing is left, and this is the status of its answer
-abbrev pub Answers : List (List ℕ) → Option (List ℕ) → Option (List ℕ) → ℕ → Type 0
-Answers words left left' status =
-    IfSome left (λ input. ((result_of words input).status ≡ status) × (left' ≡ Some []) × (length input ≤ 8388608))
+-- The input is all that was left, nothing is left, and this is the answer of the words to it.
+pub record Answers (words : List (List ℕ)) (input : List ℕ) (left' : Option (List ℕ)) (a : Answer) : Type 0 where
+  pub answer : AnswersWords (command_in words) input a
+  pub all : left' ≡ Some []
+  pub within : length input ≤ 8388608
 
 -- notes has this line behind its old bytes, or only a front of it where its count rose
 pub record Notes (old new : Option (List ℕ)) (before now : ℕ) (text : List ℕ) : Type 0 where
   pub front : AppendsFront old new text
   pub whole : (Rose before now → ⊥) → Appends old new text
+
+-- the output is that of the answer, whole
+abbrev pub Outputs : List (List ℕ) → Option (List ℕ) → Option (List ℕ) → Option (List ℕ) → Option (List ℕ) → Type 0
+Outputs words left left' old new = IfSome left (λ input. (text : List ℕ) × Answers words input left' (output text) × Appends old new text)
+
+-- or only a front of it
+abbrev pub OutputsFront : List (List ℕ) → Option (List ℕ) → Option (List ℕ) → Option (List ℕ) → Option (List ℕ) → Type 0
+OutputsFront words left left' old new = IfSome left (λ input. (text : List ℕ) × Answers words input left' (output text) × AppendsFront old new text)
+
+-- the input is refused, and notes has the line that says why
+abbrev pub Refuses : List (List ℕ) → Option (List ℕ) → Option (List ℕ) → Option (List ℕ) → Option (List ℕ) → ℕ → ℕ → Type 0
+Refuses words left left' old new before now = IfSome left (λ input. (text : List ℕ) × Answers words input left' (refusal text) × Notes old new before now text)

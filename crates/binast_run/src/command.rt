@@ -7,6 +7,8 @@ use bast_base::Chars;
 #[derive(Clone, Copy, Debug, PartialEq, Eq)]
 pub(crate) enum Command {
     EncodeEager,
+    Decode,
+    Check,
 }
 
 // The command that the words ask for.
@@ -17,6 +19,8 @@ pub(crate) fn command_of(words: &[Chars]) -> Option<Command>
         [command, policy] if command.as_str() == "encode" && policy.as_str() == "eager" => {
             Some(Command::EncodeEager)
         }
+        [command] if command.as_str() == "decode" => Some(Command::Decode),
+        [command] if command.as_str() == "check" => Some(Command::Check),
         _ => None,
     }
 }

@@ -6,6 +6,7 @@ mod encode;
 mod first_source;
 mod gate;
 mod laws;
+mod lines;
 mod outcome;
 mod output;
 mod program;

@@ -1,10 +1,11 @@
 ghost use Rattle.std.specs.Prelude.{◌≡◌, ◌≤◌, ◌+◌, ◌<◌, Some, length, sum, IfOk};
 ghost use Rattle.binast_run.specs.FirstSource.{first_source};
 ghost use Rattle.binast_run.specs.Outcome.{answer_in};
-ghost use Rattle.binast_run.specs.Result.{answer_of, answer_to, looked_by};
+ghost use Rattle.binast_run.specs.Result.{answer_to, looked_by, AnswersInput};
 
 use crate::command::Command;
 use crate::encode::encode;
+use crate::files::{check, decode};
 use crate::first_source::first_source_of;
 use crate::source_tree::source_tree_of;
 use bast_base::{Memory, Steps, Tape};
@@ -25,7 +26,7 @@ pub(crate) fn outcome_of<L>(
     steps: &mut [Steps<L>],
 ) -> Result<Outcome, Memory>
     requires { 0 < length steps.old }
-    ensures answer { IfOk result (λ outcome. answer_in outcome ≡ answer_of (Some command) tape.now) }
+    ensures answer { IfOk result (λ outcome. AnswersInput command tape.now (answer_in outcome)) }
     ensures cost { sum steps.new ≤ sum steps.old + looked_by (Some command) tape.now }
 {
     match command {
@@ -33,6 +34,8 @@ pub(crate) fn outcome_of<L>(
             let text = text_of(alloc, tape, steps)?;
             encode_eager(alloc, &text)
         }
+        Command::Decode => decode(alloc, tape, steps),
+        Command::Check => check(alloc, tape, steps),
     }
 }
 

@@ -1,0 +1,30 @@
+-- What a file comes to: its tree, or its first fault.
+use Rattle.std.specs.Prelude.{◌≡◌, ℕ, List, Option, Some, None, Result, Ok, Err}
+use Rattle.bast_base.specs.declared.errors.FormatFault.{FormatFault}
+use Rattle.bast_schema.specs.Tree.{Tree}
+use Rattle.container.specs.declared.layout.Layout.{Layout}
+use Rattle.container.specs.IsContainer.{tables}
+use Rattle.container.specs.Layout.{layout_of}
+use Rattle.tree_decoder.specs.Range.{Range}
+use Rattle.tree_decoder.specs.Script.{IsScript, script_outcome}
+
+-- where the tree of a file lies, and the tables that it is spelled over
+abbrev pub tree_range : List ℕ → Layout → Range
+tree_range bytes l = record { tables = tables l; tape = bytes; end = l.to }
+
+-- the first fault of the tree, where there is one
+abbrev pub tree_fault : List ℕ → Layout → Option FormatFault
+tree_fault bytes l = (script_outcome (tree_range bytes l) l.from).fault
+
+abbrev pub fault_in : List ℕ → Result Layout FormatFault → Option FormatFault
+fault_in bytes (Err f) = Some f
+fault_in bytes (Ok l) = tree_fault bytes l
+
+-- the first fault of a file: that of its container, and else that of its tree
+abbrev pub first_fault : List ℕ → Option FormatFault
+first_fault bytes = fault_in bytes (layout_of bytes)
+
+-- the container of a file, and the script that its tree's bytes spell
+pub record IsFileOfScript (bytes : List ℕ) (l : Layout) (t : Tree) : Type 0 where
+  pub container : layout_of bytes ≡ Ok l
+  pub script : IsScript (tree_range bytes l) l.from t
