@@ -1,3 +1,5 @@
+pub mod Machine
+pub mod Moves
 pub mod Spells
-pub mod Wholes
 pub mod Spending
+pub mod Wholes

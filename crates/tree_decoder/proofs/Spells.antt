@@ -1,5 +1,5 @@
 -- A number that is read is spelled by the bytes that were passed.
-use Rattle.std.proofs.Common.{ℕ, zero, suc, ◌+◌, ◌-◌, ◌^◌, ◌<◌, ◌≤◌, ◌≡◌, List, [], ◌∷◌, ◌++◌, length, take, drop, slice_range, Result, Ok, Err, refl, sym, ap, subst, ◌∙◌, arith, length-append}
+use Rattle.std.proofs.Common.{ℕ, zero, suc, ◌+◌, ◌-◌, ◌^◌, ◌<◌, ◌≤◌, ◌≡◌, Bool, true, false, cond, List, [], ◌∷◌, ◌++◌, length, take, drop, slice_range, Result, Ok, Err, refl, sym, ap, subst, ◌∙◌, arith, length-append}
 use Rattle.std.specs.List.{All}
 use Rattle.std.proofs.Math.Seq.{take-add}
 use Rattle.std.proofs.lemmas.List.{drop-take, drop-drop}
@@ -24,6 +24,16 @@ is_ok x = Ok x
 
 pub ok_is : {A : Type 0} (x y : A) → is_ok x ≡ is_ok y → x ≡ y
 ok_is x y e = cc
+
+-- a test that did not fail
+pub guard_ok : {A : Type 0} (b : Bool) (d : FormatFault) (r : Result A FormatFault) (y : A) → cond b (Err d) r ≡ Ok y → (b ≡ false) × (r ≡ Ok y)
+guard_ok true d r y e = absurd cc
+guard_ok false d r y e = (refl, e)
+
+-- a test that chose the value
+pub chosen_ok : {A : Type 0} (b : Bool) (x : A) (d : FormatFault) (y : A) → cond b (is_ok x) (Err d) ≡ Ok y → (b ≡ true) × (x ≡ y)
+chosen_ok true x d y e = (refl, cc)
+chosen_ok false x d y e = absurd cc
 
 -- a range is its front and the rest
 pub range_split : (tape : List ℕ) (a b e : ℕ) → a ≤ b → b ≤ e → slice_range tape a e ≡ slice_range tape a b ++ slice_range tape b e

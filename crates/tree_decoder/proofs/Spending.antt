@@ -12,49 +12,53 @@ use Rattle.tree_decoder.specs.Found.{Gives, SpendsLeaf, Spent}
 use Rattle.tree_decoder.specs.Numbers.{fault, ◌>>=◌, number_from, leaf_at, numbered, name_of, label_of, variant_of, choice_at, window_of}
 use Rattle.tree_decoder.specs.Range.{Range}
 use Rattle.tree_decoder.specs.Windows.{windows_at}
-use Rattle.tree_decoder.proofs.Spells.{ok_is, is_ok}
+use Rattle.std.proofs.lemmas.Bool.{ltb-false}
+use Rattle.tree_decoder.proofs.Spells.{ok_is, is_ok, guard_ok}
 
 -- the windows of a value that ends at a place have the bytes from there to the next
-pub record Passes (next : ℕ) (x : Datum × ℕ) : Type 0 where
+pub record Passes (r : Range) (next : ℕ) (x : Datum × ℕ) : Type 0 where
   pub spent : (at old new : ℕ) → at ≤ next → new ≤ old + (next - at) → Spent (windows_at x.0) at x.1 old new
+  pub forward : next ≤ x.1
+  pub within : next ≤ r.end → x.1 ≤ r.end
 
-same_place : (v : Datum) (next : ℕ) (x : Datum × ℕ) → windows_at v ≡ [] → (v, next) ≡ x → Passes next x
-same_place v next x none e =
+same_place : (r : Range) (v : Datum) (next : ℕ) (x : Datum × ℕ) → windows_at v ≡ [] → (v, next) ≡ x → Passes r next x
+same_place r v next x none e =
     let spent : (at old new : ℕ) → at ≤ next → new ≤ old + (next - at) → Spent (windows_at v) at next old new = λ at old new order less. rw none (omega arith) in
-    subst (λ (y : Datum × ℕ). Passes next y) e (record { spent = spent })
+    subst (λ (y : Datum × ℕ). Passes r next y) e (record { spent = spent; forward = omega arith; within = λ h. h })
 
-name_passes : (at n next : ℕ) (o : Option (Option (List ℕ))) (x : Datum × ℕ) → name_of at n next o ≡ Ok x → Passes next x
-name_passes at n next (Some (Some text)) x e = same_place (name n) next x refl (ok_is _ _ e)
-name_passes at n next (Some None) x e = absurd cc
-name_passes at n next None x e = absurd cc
+name_passes : (r : Range) (at n next : ℕ) (o : Option (Option (List ℕ))) (x : Datum × ℕ) → name_of at n next o ≡ Ok x → Passes r next x
+name_passes r at n next (Some (Some text)) x e = same_place r (name n) next x refl (ok_is _ _ e)
+name_passes r at n next (Some None) x e = absurd cc
+name_passes r at n next None x e = absurd cc
 
-label_passes : (at n next : ℕ) (o : Option (Option (List ℕ))) (x : Datum × ℕ) → label_of at n next o ≡ Ok x → Passes next x
-label_passes at n next (Some (Some text)) x e = same_place (name n) next x refl (ok_is _ _ e)
-label_passes at n next (Some None) x e = same_place no_name next x refl (ok_is _ _ e)
-label_passes at n next None x e = absurd cc
+label_passes : (r : Range) (at n next : ℕ) (o : Option (Option (List ℕ))) (x : Datum × ℕ) → label_of at n next o ≡ Ok x → Passes r next x
+label_passes r at n next (Some (Some text)) x e = same_place r (name n) next x refl (ok_is _ _ e)
+label_passes r at n next (Some None) x e = same_place r no_name next x refl (ok_is _ _ e)
+label_passes r at n next None x e = absurd cc
 
-variant_passes : (at next : ℕ) (o : Option ℕ) (x : Datum × ℕ) → variant_of at next o ≡ Ok x → Passes next x
-variant_passes at next (Some n) x e = same_place (choice n) next x refl (ok_is _ _ e)
-variant_passes at next None x e = absurd cc
+variant_passes : (r : Range) (at next : ℕ) (o : Option ℕ) (x : Datum × ℕ) → variant_of at next o ≡ Ok x → Passes r next x
+variant_passes r at next (Some n) x e = same_place r (choice n) next x refl (ok_is _ _ e)
+variant_passes r at next None x e = absurd cc
 
-window_passes : (r : Range) (n next : ℕ) (b : Bool) (x : Datum × ℕ) → cond b (Err (fault r.end Ended)) (is_ok (window next (next + n), next + n)) ≡ Ok x → Passes next x
-window_passes r n next true x e = absurd cc
-window_passes r n next false x e =
+window_passes : (r : Range) (n next : ℕ) (x : Datum × ℕ) → window_of r n next ≡ Ok x → Passes r next x
+window_passes r n next x e =
+    let g = guard_ok (ltb r.end (next + n)) (fault r.end Ended) (is_ok (window next (next + n), next + n)) x e in
+    let far : next + n ≤ r.end = ltb-false _ _ g.0 in
     let spent : (at old new : ℕ) → at ≤ next → new ≤ old + (next - at) → Spent (windows_at (window next (next + n))) at (next + n) old new = λ at old new order less. omega arith in
-    subst (λ (y : Datum × ℕ). Passes next y) (ok_is _ _ e) (record { spent = spent })
+    subst (λ (y : Datum × ℕ). Passes r next y) (ok_is _ _ g.1) (record { spent = spent; forward = omega arith; within = λ h. far })
 
-pub numbered_passes : (r : Range) (t : FieldType) (at n next : ℕ) (x : Datum × ℕ) → numbered r t at n next ≡ Ok x → Passes next x
-numbered_passes r field.Index at n next x e = same_place (index n) next x refl (ok_is _ _ e)
-numbered_passes r field.Text at n next x e = name_passes at n next _ x e
-numbered_passes r field.Name at n next x e = name_passes at n next _ x e
-numbered_passes r field.Label at n next x e = label_passes at n next _ x e
+pub numbered_passes : (r : Range) (t : FieldType) (at n next : ℕ) (x : Datum × ℕ) → numbered r t at n next ≡ Ok x → Passes r next x
+numbered_passes r field.Index at n next x e = same_place r (index n) next x refl (ok_is _ _ e)
+numbered_passes r field.Text at n next x e = name_passes r at n next _ x e
+numbered_passes r field.Name at n next x e = name_passes r at n next _ x e
+numbered_passes r field.Label at n next x e = label_passes r at n next _ x e
 numbered_passes r (field.Choice set) at n next x e = by_entry _ e
   where
-    by_entry : (o : Option (Option (List ℕ))) → choice_at set at next o ≡ Ok x → Passes next x
-    by_entry (Some (Some text)) h = variant_passes at next (choice_of_text set text) x h
+    by_entry : (o : Option (Option (List ℕ))) → choice_at set at next o ≡ Ok x → Passes r next x
+    by_entry (Some (Some text)) h = variant_passes r at next (choice_of_text set text) x h
     by_entry (Some None) h = absurd cc
     by_entry None h = absurd cc
-numbered_passes r (field.Lazy u) at n next x e = window_passes r n next (ltb r.end (next + n)) x e
+numbered_passes r (field.Lazy u) at n next x e = window_passes r n next x e
 numbered_passes r field.Bool at n next x e = absurd cc
 numbered_passes r field.Whole at n next x e = absurd cc
 numbered_passes r (field.Node u) at n next x e = absurd cc
