@@ -1,5 +1,6 @@
 pub mod Machine
 pub mod Moves
+pub mod Single
 pub mod Spells
 pub mod Spending
 pub mod Wholes
