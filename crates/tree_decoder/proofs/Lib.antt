@@ -1,5 +1,7 @@
 pub mod Machine
 pub mod Moves
+pub mod Nodes
+pub mod Runs
 pub mod Single
 pub mod Spells
 pub mod Spending
