@@ -2,6 +2,7 @@ pub mod Machine
 pub mod Moves
 pub mod Nodes
 pub mod Runs
+pub mod Scripts
 pub mod Single
 pub mod Spells
 pub mod Spending

@@ -1,6 +1,7 @@
 -- The bytes of a file up to a place, and the two tables that trees are spelled over there.
-use Rattle.std.specs.Prelude.{ℕ, ◌<◌, ◌≤◌, ◌^◌, List, length, slice_range}
+use Rattle.std.specs.Prelude.{ℕ, ◌<◌, ◌≤◌, ◌^◌, List, Option, length, slice_range}
 use Rattle.std.specs.List.{All, IsDistinct}
+use Rattle.bast_schema.specs.declared.kind.Kind.{Kind}
 use Rattle.bast_schema.specs.Held.{Held}
 use Rattle.bast_schema.specs.Kinds.{same_kind}
 use Rattle.string_table.specs.Entries.{AreDistinct}
@@ -29,6 +30,9 @@ pub record IsSound (r : Range) : Type 0 where
   pub texts : AreDistinct r.tables.texts
   pub few : length r.tables.texts < 2 ^ 32
 
+abbrev pub range : List Kind → List (Option (List ℕ)) → List ℕ → ℕ → Range
+range kinds texts tape end = record { tables = record { kinds = kinds; texts = texts }; tape = tape; end = end }
+
 -- the range of a reader
 abbrev pub range_of : {L : Type 0} → Input L → Range
-range_of i = record { tables = record { kinds = i.kinds.now; texts = i.strings.now }; tape = i.tape.now; end = i.end }
+range_of i = range i.kinds.now i.strings.now i.tape.now i.end

@@ -3,4 +3,6 @@
 
 mod cursor;
 mod leaves;
+mod reading;
 
+pub use reading::read_tree;
