@@ -1,0 +1,9 @@
+pub mod Machine
+pub mod Moves
+pub mod Nodes
+pub mod Runs
+pub mod Scripts
+pub mod Single
+pub mod Spells
+pub mod Spending
+pub mod Wholes

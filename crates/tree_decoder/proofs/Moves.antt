@@ -1,0 +1,136 @@
+-- Each atom goes forward within the range.
+use Rattle.std.proofs.Common.{ℕ, zero, suc, ◌+◌, ◌-◌, ◌<◌, ◌≤◌, ◌≡◌, Bool, true, false, not, ◌&&◌, ◌||◌, cond, ltb, eqb, List, [], ◌∷◌, ◌++◌, Option, Some, None, Result, Ok, Err, refl, sym, ap, subst, ◌∙◌, arith, slice_get, slice_index, slice_range}
+use Rattle.std.proofs.lemmas.Bool.{ltb-false, ltb-true}
+use Rattle.std.specs.Int.{from_be_bytes, w64}
+use Rattle.bast_base.specs.declared.errors.FormatFault.{FormatFault}
+use Rattle.bast_base.specs.declared.errors.Why.TheVariants.{Ended, BadKind, BadBool, BadWhole, EmptyList, TooDeep}
+use Rattle.bast_schema.specs.declared.kind.FieldType.{FieldType}
+use Rattle.bast_schema.specs.declared.kind.FieldType.TheVariants as field
+use Rattle.bast_schema.specs.declared.kind.Kind.{Kind}
+use Rattle.bast_schema.specs.declared.kind.Kind.TheVariants.{Null}
+use Rattle.bast_schema.specs.declared.kind.Union.{Union}
+use Rattle.bast_schema.specs.Fields.{has_lazy}
+use Rattle.bast_schema.specs.Kinds.{counted, same_kind}
+use Rattle.bast_schema.specs.Tree.{Datum, flag, whole, item_type}
+use Rattle.bast_schema.specs.Unions.{allowed}
+use Rattle.tree_decoder.specs.Dues.{Due, Taken, taken, dues, times, children, atom_of}
+use Rattle.tree_decoder.specs.Found.{Spent}
+use Rattle.tree_decoder.specs.Numbers.{fault, ◌>>=◌, number_from, judged, kind_of_number, kind_at, count_at, whole_with, whole_or, whole_at, flag_of, flag_at, numbered, leaf_at}
+use Rattle.tree_decoder.specs.Range.{Range, IsSound}
+use Rattle.tree_decoder.specs.Windows.{windows_at, skipped}
+use Rattle.tree_decoder.proofs.Spells.{bind_ok, guard_ok, chosen_ok, is_ok, ok_is, number_spells}
+use Rattle.tree_decoder.proofs.Spending.{numbered_passes}
+
+pub record Moves (r : Range) (at next : ℕ) (ws : List (ℕ × ℕ)) : Type 0 where
+  pub forward : at < next
+  pub within : next ≤ r.end
+  pub skips : skipped ws ≤ next - at
+
+pub number_moves : (r : Range) (at : ℕ) (x : ℕ × ℕ) → IsSound r → at ≤ r.end → number_from r at ≡ Ok x → Moves r at x.1 []
+number_moves r at x sound order e =
+    let s = number_spells r at x sound order e in
+    record { forward = s.ahead; within = s.within; skips = omega arith }
+
+same_next : (r : Range) (at : ℕ) (v : Datum) (next : ℕ) (x : Datum × ℕ) → at < next → next ≤ r.end → windows_at v ≡ [] → (v, next) ≡ x → Moves r at x.1 (windows_at x.0)
+same_next r at v next x ahead within none e =
+    let some : skipped (windows_at v) ≤ next - at = rw none (omega arith) in
+    subst (λ (y : Datum × ℕ). Moves r at y.1 (windows_at y.0)) e (record { forward = ahead; within = within; skips = some })
+
+flag_moves_of : (r : Range) (at : ℕ) (a b : Bool) (x : Datum × ℕ) → at < r.end → cond a (is_ok (flag false, at + 1)) (cond b (is_ok (flag true, at + 1)) (Err (fault at BadBool))) ≡ Ok x → Moves r at x.1 (windows_at x.0)
+flag_moves_of r at true b x h e = same_next r at (flag false) (at + 1) x (omega arith) (omega arith) refl (ok_is _ _ e)
+flag_moves_of r at false b x h e = same_next r at (flag true) (at + 1) x (omega arith) (omega arith) refl (chosen_ok b (flag true, at + 1) (fault at BadBool) x e).1
+
+inside_end : (r : Range) (at : ℕ) (b : Bool) (x : Datum × ℕ) → cond b (flag_of at (slice_index r.tape at)) (Err (fault r.end Ended)) ≡ Ok x → (b ≡ true) × (flag_of at (slice_index r.tape at) ≡ Ok x)
+inside_end r at true x e = (refl, e)
+inside_end r at false x e = absurd cc
+
+flag_moves : (r : Range) (at : ℕ) (x : Datum × ℕ) → flag_at r at ≡ Ok x → Moves r at x.1 (windows_at x.0)
+unfolding flag_at
+flag_moves r at x e =
+    let g = inside_end r at (ltb at r.end) x e in
+    flag_moves_of r at (eqb (slice_index r.tape at) 0) (eqb (slice_index r.tape at) 1) x (ltb-true _ _ g.0) g.1
+
+whole_moves_of : (r : Range) (at : ℕ) (o : Option ℕ) (x : Datum × ℕ) → at + 8 ≤ r.end → whole_or at o ≡ Ok x → Moves r at x.1 (windows_at x.0)
+whole_moves_of r at (Some n) x far e = same_next r at (whole n) (at + 8) x (omega arith) far refl (ok_is _ _ e)
+whole_moves_of r at None x far e = absurd cc
+
+whole_moves : (r : Range) (at : ℕ) (x : Datum × ℕ) → whole_at r at ≡ Ok x → Moves r at x.1 (windows_at x.0)
+unfolding whole_at
+whole_moves r at x e =
+    let bits = from_be_bytes w64 (slice_range r.tape at (at + 8)) in
+    let g = guard_ok (ltb r.end (at + 8)) (fault r.end Ended) (whole_or at (whole_with bits)) x e in
+    whole_moves_of r at (whole_with bits) x (ltb-false _ _ g.0) g.1
+
+by_number : (r : Range) (t : FieldType) (at : ℕ) (x : Datum × ℕ) → IsSound r → at ≤ r.end → (number_from r at >>= λ n. numbered r t at n.0 n.1) ≡ Ok x → Moves r at x.1 (windows_at x.0)
+by_number r t at x sound order e =
+    let b = bind_ok (number_from r at) (λ n. numbered r t at n.0 n.1) x e in
+    let m = number_moves r at b.0 sound order b.1 in
+    let p = numbered_passes r t at b.0.0 b.0.1 x b.2 in
+    let ahead : at < b.0.1 = m.forward in
+    let on : b.0.1 ≤ x.1 = p.forward in
+    let spent : Spent (windows_at x.0) at x.1 0 0 = p.spent at 0 0 (omega arith) (omega arith) in
+    record { forward = omega arith; within = p.within m.within; skips = omega arith }
+
+pub leaf_moves : (r : Range) (t : FieldType) (at : ℕ) (x : Datum × ℕ) → IsSound r → at ≤ r.end → leaf_at r t at ≡ Ok x → Moves r at x.1 (windows_at x.0)
+leaf_moves r field.Bool at x sound order e = flag_moves r at x e
+leaf_moves r field.Whole at x sound order e = whole_moves r at x e
+leaf_moves r field.Index at x sound order e = by_number r field.Index at x sound order e
+leaf_moves r field.Text at x sound order e = by_number r field.Text at x sound order e
+leaf_moves r field.Name at x sound order e = by_number r field.Name at x sound order e
+leaf_moves r field.Label at x sound order e = by_number r field.Label at x sound order e
+leaf_moves r (field.Choice set) at x sound order e = by_number r (field.Choice set) at x sound order e
+leaf_moves r (field.Lazy u) at x sound order e = by_number r (field.Lazy u) at x sound order e
+leaf_moves r (field.Node u) at x sound order e = by_number r (field.Node u) at x sound order e
+leaf_moves r (field.Optional u) at x sound order e = by_number r (field.Optional u) at x sound order e
+leaf_moves r (field.List u holes filled) at x sound order e = by_number r (field.List u holes filled) at x sound order e
+
+pub judged_keeps : (u : Union) (depth : ℕ) (inside : Bool) (at next : ℕ) (k : Kind) (x : Option Kind × ℕ) → judged u depth inside at next k ≡ Ok x → (Some k, next) ≡ x
+judged_keeps u depth inside at next k x e =
+    let g = guard_ok (not (allowed u k) || (inside && has_lazy k)) (fault at BadKind) (cond (counted k && ltb 512 depth) (Err (fault at TooDeep)) (Ok (Some k, next))) x e in
+    ok_is _ _ (guard_ok (counted k && ltb 512 depth) (fault at TooDeep) (Ok (Some k, next)) x g.1).1
+
+kind_next : (b : Bool) (u : Union) (depth : ℕ) (inside : Bool) (at next : ℕ) (k : Kind) (x : Option Kind × ℕ) → cond b (is_ok (None, next)) (judged u depth inside at next k) ≡ Ok x → next ≡ x.1
+kind_next true u depth inside at next k x e = ap (λ (p : Option Kind × ℕ). p.1) (ok_is _ _ e)
+kind_next false u depth inside at next k x e = ap (λ (p : Option Kind × ℕ). p.1) (judged_keeps u depth inside at next k x e)
+
+kind_number_next : (u : Union) (optional : Bool) (depth : ℕ) (inside : Bool) (at next : ℕ) (o : Option Kind) (x : Option Kind × ℕ) → kind_of_number u optional depth inside at next o ≡ Ok x → next ≡ x.1
+kind_number_next u optional depth inside at next None x e = absurd cc
+kind_number_next u optional depth inside at next (Some k) x e = kind_next (optional && same_kind k Null) u depth inside at next k x e
+
+pub kind_moves : (r : Range) (u : Union) (optional : Bool) (depth : ℕ) (inside : Bool) (at : ℕ) (x : Option Kind × ℕ) → IsSound r → at ≤ r.end → kind_at r u optional depth inside at ≡ Ok x → Moves r at x.1 []
+unfolding kind_at
+kind_moves r u optional depth inside at x sound order e =
+    let b = bind_ok (number_from r at) (λ n. kind_of_number u optional depth inside at n.1 (slice_get r.tables.kinds n.0)) x e in
+    subst (λ (n : ℕ). Moves r at n []) (kind_number_next u optional depth inside at b.0.1 (slice_get r.tables.kinds b.0.0) x b.2) (number_moves r at b.0 sound order b.1)
+
+pub count_moves : (r : Range) (filled : Bool) (at : ℕ) (x : ℕ × ℕ) → IsSound r → at ≤ r.end → count_at r filled at ≡ Ok x → Moves r at x.1 []
+unfolding count_at
+count_moves r filled at x sound order e =
+    let b = bind_ok (number_from r at) (λ n. cond (filled && eqb n.0 0) (Err (fault at EmptyList)) (Ok n)) x e in
+    let is : b.0 ≡ x = ok_is _ _ (guard_ok (filled && eqb b.0.0 0) (fault at EmptyList) (Ok b.0) x b.2).1 in
+    subst (λ (n : ℕ × ℕ). Moves r at n.1 []) is (number_moves r at b.0 sound order b.1)
+
+leaf_atom : (r : Range) (t : FieldType) (at : ℕ) (y : Taken) → IsSound r → at ≤ r.end → (leaf_at r t at >>= λ v. is_ok (taken [] (windows_at v.0) v.1)) ≡ Ok y → Moves r at y.next y.windows
+leaf_atom r t at y sound order e =
+    let b = bind_ok (leaf_at r t at) (λ v. is_ok (taken [] (windows_at v.0) v.1)) y e in
+    subst (λ (z : Taken). Moves r at z.next z.windows) (ok_is _ _ b.2) (leaf_moves r t at b.0 sound order b.1)
+
+kind_atom : (r : Range) (u : Union) (optional : Bool) (d : ℕ) (w : Bool) (at : ℕ) (y : Taken) → IsSound r → at ≤ r.end → (kind_at r u optional d w at >>= λ k. is_ok (taken (children k.0 d w) [] k.1)) ≡ Ok y → Moves r at y.next y.windows
+kind_atom r u optional d w at y sound order e =
+    let b = bind_ok (kind_at r u optional d w at) (λ k. is_ok (taken (children k.0 d w) [] k.1)) y e in
+    subst (λ (z : Taken). Moves r at z.next z.windows) (ok_is _ _ b.2) (kind_moves r u optional d w at b.0 sound order b.1)
+
+pub atom_moves : (r : Range) (t : FieldType) (d : ℕ) (w : Bool) (at : ℕ) (y : Taken) → IsSound r → at ≤ r.end → atom_of r t d w at ≡ Ok y → Moves r at y.next y.windows
+atom_moves r (field.Node u) d w at y sound order e = kind_atom r u false d w at y sound order e
+atom_moves r (field.Optional u) d w at y sound order e = kind_atom r u true d w at y sound order e
+atom_moves r (field.List u holes filled) d w at y sound order e =
+    let b = bind_ok (count_at r filled at) (λ n. is_ok (taken (dues (times n.0 (item_type u holes)) d w) [] n.1)) y e in
+    subst (λ (z : Taken). Moves r at z.next z.windows) (ok_is _ _ b.2) (count_moves r filled at b.0 sound order b.1)
+atom_moves r field.Bool d w at y sound order e = leaf_atom r field.Bool at y sound order e
+atom_moves r field.Index d w at y sound order e = leaf_atom r field.Index at y sound order e
+atom_moves r field.Whole d w at y sound order e = leaf_atom r field.Whole at y sound order e
+atom_moves r field.Text d w at y sound order e = leaf_atom r field.Text at y sound order e
+atom_moves r field.Name d w at y sound order e = leaf_atom r field.Name at y sound order e
+atom_moves r field.Label d w at y sound order e = leaf_atom r field.Label at y sound order e
+atom_moves r (field.Choice set) d w at y sound order e = leaf_atom r (field.Choice set) at y sound order e
+atom_moves r (field.Lazy u) d w at y sound order e = leaf_atom r (field.Lazy u) at y sound order e

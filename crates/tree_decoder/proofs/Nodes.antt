@@ -1,0 +1,334 @@
+-- What is read of a node and of a list.
+use Rattle.std.proofs.Common.{ℕ, zero, suc, ◌+◌, ◌-◌, ◌^◌, ◌<◌, ◌≤◌, ◌≡◌, Bool, true, false, not, ◌&&◌, ◌||◌, cond, ltb, eqb, List, [], ◌∷◌, ◌++◌, length, Option, Some, None, Result, Ok, Err, refl, sym, ap, subst, ◌∙◌, arith, append_assoc, slice_get}
+use Rattle.std.specs.Option.{unwrap_or}
+use Rattle.std.proofs.lemmas.Bool.{ltb-false}
+use Rattle.bast_base.specs.declared.errors.FormatFault.{FormatFault}
+use Rattle.bast_base.specs.declared.errors.Halt.{Halt}
+use Rattle.bast_base.specs.declared.errors.Halt.TheVariants.{Memory, Format}
+use Rattle.bast_base.specs.declared.errors.Why.TheVariants.{BadKind, EmptyList, TooDeep}
+use Rattle.var_numbers.specs.Varnum.{varnum}
+use Rattle.bast_schema.specs.declared.kind.FieldType.{FieldType}
+use Rattle.bast_schema.specs.declared.kind.FieldType.TheVariants as field
+use Rattle.bast_schema.specs.declared.kind.Kind.{Kind}
+use Rattle.bast_schema.specs.declared.kind.Kind.TheVariants.{Null}
+use Rattle.bast_schema.specs.declared.kind.Union.{Union}
+use Rattle.bast_schema.specs.declared.kind.Union.TheVariants.{Body}
+use Rattle.bast_schema.specs.declared.node.NodeFault.{NodeFault}
+use Rattle.bast_schema.specs.Fields.{fields, has_lazy}
+use Rattle.bast_schema.specs.Held.{Held}
+use Rattle.bast_schema.specs.KindTable.{place_of}
+use Rattle.bast_schema.specs.Kinds.{counted, same_kind}
+use Rattle.bast_schema.specs.Made.{node_of}
+use Rattle.bast_schema.specs.Tree.{Tree, branch, Datum, child, absent, listed, flag, index, whole, name, no_name, choice, window, Data, none, more, fits, fit, items_fit, item_type, is_none, count, depth, depth_at, depth_in, typed, kind_of}
+use Rattle.bast_schema.specs.Unions.{allowed}
+use Rattle.bast_schema.proofs.Both.{and_first, and_second}
+use Rattle.bast_schema.proofs.Distinct.{place_of_at}
+use Rattle.bast_schema.proofs.EachKind.{same_kind_true}
+use Rattle.bast_schema.proofs.Lists.{count_fit}
+use Rattle.bast_schema.proofs.Typed.{made_where_fit}
+use Rattle.container.specs.Spelled.{framed, spelled, spelled_at, spelled_items, spelled_fields}
+use Rattle.container.specs.Tables.{Tables, kind_place}
+use Rattle.tree_decoder.specs.Dues.{Due, due, dues, times, below, children, Taken, taken, atom_of}
+use Rattle.tree_decoder.specs.Found.{Found, Run, Fails, Spent, SpentFails}
+use Rattle.tree_decoder.specs.Numbers.{fault, ◌>>=◌, number_from, judged, kind_of_number, kind_at, count_at}
+use Rattle.tree_decoder.specs.Outcome.{Outcome, ends, behind, outcome_from}
+use Rattle.tree_decoder.specs.Range.{Range, IsSound, held, left}
+use Rattle.tree_decoder.specs.Windows.{windows_at, windows_in, skipped}
+use Rattle.tree_decoder.proofs.Machine.{from_step, from_fails}
+use Rattle.tree_decoder.proofs.Moves.{kind_moves, count_moves}
+use Rattle.tree_decoder.proofs.Spells.{bind_ok, guard_ok, is_ok, ok_is, number_spells}
+
+-- ---- kinds
+
+pub record Judged (u : Union) (d next : ℕ) (j k : Kind) (m : ℕ) : Type 0 where
+  pub same : j ≡ k
+  pub place : next ≡ m
+  pub allowed : allowed u k ≡ true
+  pub shallow : (counted k && ltb 512 d) ≡ false
+
+not_or_first : (a b : Bool) → (not a || b) ≡ false → a ≡ true
+not_or_first true b e = refl
+not_or_first false b e = cc
+
+judged_some : (u : Union) (d : ℕ) (w : Bool) (at next : ℕ) (j k : Kind) (m : ℕ) → judged u d w at next j ≡ Ok (Some k, m) → Judged u d next j k m
+judged_some u d w at next j k m e =
+    let g = guard_ok (not (allowed u j) || (w && has_lazy j)) (fault at BadKind) (cond (counted j && ltb 512 d) (Err (fault at TooDeep)) (Ok (Some j, next))) (Some k, m) e in
+    let h = guard_ok (counted j && ltb 512 d) (fault at TooDeep) (Ok (Some j, next)) (Some k, m) g.1 in
+    let is : (Some j, next) ≡ (Some k, m) = ok_is _ _ h.1 in
+    let kind : Some j ≡ Some k = ap (λ (p : Option Kind × ℕ). p.0) is in
+    let same : j ≡ k = cc in
+    record { same = same; place = ap (λ (p : Option Kind × ℕ). p.1) is; allowed = rw (← same) (not_or_first (allowed u j) (w && has_lazy j) g.0); shallow = rw (← same) h.0 }
+
+judged_none : (u : Union) (d : ℕ) (w : Bool) (at next : ℕ) (j : Kind) (m : ℕ) → judged u d w at next j ≡ Ok (None, m) → ⊥
+judged_none u d w at next j m e =
+    let g = guard_ok (not (allowed u j) || (w && has_lazy j)) (fault at BadKind) (cond (counted j && ltb 512 d) (Err (fault at TooDeep)) (Ok (Some j, next))) (None, m) e in
+    let h = guard_ok (counted j && ltb 512 d) (fault at TooDeep) (Ok (Some j, next)) (None, m) g.1 in
+    let is : (Some j, next) ≡ (None, m) = ok_is _ _ h.1 in
+    let kind : Some j ≡ None = ap (λ (p : Option Kind × ℕ). p.0) is in
+    cc
+
+chose_kind : (b : Bool) (u : Union) (d : ℕ) (w : Bool) (at next : ℕ) (j k : Kind) (m : ℕ) → cond b (is_ok (None, next)) (judged u d w at next j) ≡ Ok (Some k, m) → Judged u d next j k m
+chose_kind true u d w at next j k m e = let is : (None, next) ≡ (Some k, m) = ok_is _ _ e in let kind : None ≡ Some k = ap (λ (p : Option Kind × ℕ). p.0) is in absurd cc
+chose_kind false u d w at next j k m e = judged_some u d w at next j k m e
+
+chose_absent : (b : Bool) (u : Union) (d : ℕ) (w : Bool) (at next : ℕ) (j : Kind) (m : ℕ) → cond b (is_ok (None, next)) (judged u d w at next j) ≡ Ok (None, m) → (b ≡ true) × (next ≡ m)
+chose_absent true u d w at next j m e = (refl, ap (λ (p : Option Kind × ℕ). p.1) (ok_is _ _ e))
+chose_absent false u d w at next j m e = absurd (judged_none u d w at next j m e)
+
+numbered_kind : (o : Option Kind) (u : Union) (optional : Bool) (d : ℕ) (w : Bool) (at next : ℕ) (k : Kind) (m : ℕ) → kind_of_number u optional d w at next o ≡ Ok (Some k, m) → (j : Kind) × (o ≡ Some j) × Judged u d next j k m
+numbered_kind None u optional d w at next k m e = absurd cc
+numbered_kind (Some j) u optional d w at next k m e = (j, refl, chose_kind (optional && same_kind j Null) u d w at next j k m e)
+
+numbered_absent : (o : Option Kind) (u : Union) (optional : Bool) (d : ℕ) (w : Bool) (at next : ℕ) (m : ℕ) → kind_of_number u optional d w at next o ≡ Ok (None, m) → (j : Kind) × (o ≡ Some j) × (((optional && same_kind j Null) ≡ true) × (next ≡ m))
+numbered_absent None u optional d w at next m e = absurd cc
+numbered_absent (Some j) u optional d w at next m e = (j, refl, chose_absent (optional && same_kind j Null) u d w at next j m e)
+
+-- a kind is spelled by its number
+kind_here : (r : Range) (n : ℕ) (k : Kind) → IsSound r → slice_get r.tables.kinds n ≡ Some k → kind_place r.tables k ≡ n
+kind_here r n k sound is = ap (λ (o : Option ℕ). unwrap_or o (length r.tables.kinds)) (place_of_at r.tables.kinds k n sound.kinds is)
+
+spelled_as : (r : Range) (at n next m p : ℕ) → m ≡ n → next ≡ p → left r at ≡ varnum n ++ left r next → left r at ≡ varnum m ++ left r p
+spelled_as r at n next m p same on e = e ∙ ap (λ (k : ℕ). varnum k ++ left r next) (sym same) ∙ ap (λ (k : ℕ). varnum m ++ left r k) on
+
+pub record KindStands (r : Range) (u : Union) (d at : ℕ) (k : Kind) (m : ℕ) : Type 0 where
+  pub spelled : left r at ≡ varnum (kind_place r.tables k) ++ left r m
+  pub allowed : allowed u k ≡ true
+  pub shallow : (counted k && ltb 512 d) ≡ false
+
+pub kind_stands : (r : Range) (u : Union) (optional : Bool) (d : ℕ) (w : Bool) (at : ℕ) (k : Kind) (m : ℕ) → IsSound r → at ≤ r.end → kind_at r u optional d w at ≡ Ok (Some k, m) → KindStands r u d at k m
+unfolding kind_at
+kind_stands r u optional d w at k m sound order e =
+    let b = bind_ok (number_from r at) (λ n. kind_of_number u optional d w at n.1 (slice_get r.tables.kinds n.0)) (Some k, m) e in
+    let j = numbered_kind (slice_get r.tables.kinds b.0.0) u optional d w at b.0.1 k m b.2 in
+    let place : kind_place r.tables k ≡ b.0.0 = ap (kind_place r.tables) (sym j.2.same) ∙ kind_here r b.0.0 j.0 sound j.1 in
+    record { spelled = spelled_as r at b.0.0 b.0.1 (kind_place r.tables k) m place j.2.place (number_spells r at b.0 sound order b.1).front; allowed = j.2.allowed; shallow = j.2.shallow }
+
+pub absent_stands : (r : Range) (u : Union) (optional : Bool) (d : ℕ) (w : Bool) (at m : ℕ) → IsSound r → at ≤ r.end → kind_at r u optional d w at ≡ Ok (None, m) → (left r at ≡ varnum (kind_place r.tables Null) ++ left r m) × (optional ≡ true)
+unfolding kind_at
+absent_stands r u optional d w at m sound order e =
+    let b = bind_ok (number_from r at) (λ n. kind_of_number u optional d w at n.1 (slice_get r.tables.kinds n.0)) (None, m) e in
+    let j = numbered_absent (slice_get r.tables.kinds b.0.0) u optional d w at b.0.1 m b.2 in
+    let null : j.0 ≡ Null = same_kind_true j.0 Null (and_second optional (same_kind j.0 Null) j.2.0) in
+    let place : kind_place r.tables Null ≡ b.0.0 = ap (kind_place r.tables) (sym null) ∙ kind_here r b.0.0 j.0 sound j.1 in
+    (spelled_as r at b.0.0 b.0.1 (kind_place r.tables Null) m place j.2.1 (number_spells r at b.0 sound order b.1).front, and_first optional (same_kind j.0 Null) j.2.0)
+
+-- ---- nodes
+
+pub kind_atom : (r : Range) (u : Union) (optional : Bool) (d : ℕ) (w : Bool) (at : ℕ) (q : Result (Option Kind × ℕ) FormatFault) → kind_at r u optional d w at ≡ q → atom_of r (item_type u optional) d w at ≡ (q >>= λ k. is_ok (taken (children k.0 d w) [] k.1))
+kind_atom r u true d w at q e = ap (λ p. p >>= λ k. is_ok (taken (children k.0 d w) [] k.1)) e
+kind_atom r u false d w at q e = ap (λ p. p >>= λ k. is_ok (taken (children k.0 d w) [] k.1)) e
+
+framed_item : (u : Union) (holes : Bool) (bytes : List ℕ) → framed (item_type u holes) bytes ≡ bytes
+framed_item u true bytes = refl
+framed_item u false bytes = refl
+
+fits_child : (u : Union) (optional : Bool) (t : Tree) → allowed u (kind_of t) ≡ true → typed t ≡ true → fits (item_type u optional) (child t) ≡ true
+fits_child u true t a e = rw (a, e) refl
+fits_child u false t a e = rw (a, e) refl
+
+fits_absent : (u : Union) (optional : Bool) → optional ≡ true → fits (item_type u optional) absent ≡ true
+fits_absent u true e = refl
+fits_absent u false e = cc
+
+depth_of_node : (c b : Bool) (d x : ℕ) → (c && b) ≡ false → (b ≡ false → d ≤ 512) → d ≤ 513 → x + cond c (d + 1) d ≤ 513 → cond c 1 0 + x + d ≤ 513
+depth_of_node true b d x e h k l = let less : d ≤ 512 = h e in omega arith
+depth_of_node false b d x e h k l = omega arith
+
+-- what comes of a node, after its kind
+pub node_goes : (r : Range) (u : Union) (optional : Bool) (d : ℕ) (w : Bool) (at : ℕ) (k : Option Kind) (m : ℕ) (ds : List Due) → IsSound r → at ≤ r.end → kind_at r u optional d w at ≡ Ok (k, m) → outcome_from r (due (item_type u optional) d w ∷ ds) at ≡ outcome_from r (children k d w ++ ds) m
+node_goes r u optional d w at k m ds sound order e = from_step r (due (item_type u optional) d w) ds at (taken (children k d w) [] m) sound order (kind_atom r u optional d w at (Ok (k, m)) e)
+
+pub node_found : (r : Range) (u : Union) (optional : Bool) (d : ℕ) (w : Bool) (at : ℕ) (k : Kind) (m : ℕ) (ds : Data) (next : ℕ) → IsSound r → at ≤ r.end → d ≤ 513 → kind_at r u optional d w at ≡ Ok (Some k, m) → Run r (fields k) (below k d) w m ds next → Found r (item_type u optional) d w at (child (branch k ds)) next
+node_found r u optional d w at k m ds next sound order small e run =
+    let st = kind_stands r u optional d w at k m sound order e in
+    let mv = kind_moves r u optional d w at (Some k, m) sound order e in
+    let p = mv.forward in let q = run.forward in
+    record {
+      goes_on = λ es. node_goes r u optional d w at (Some k) m es sound order e ∙ run.goes_on es;
+      spelled =
+        st.spelled
+        ∙ ap (λ (b : List ℕ). varnum (kind_place r.tables k) ++ b) run.spelled
+        ∙ sym (append_assoc (varnum (kind_place r.tables k)) (spelled_fields r.tables (held r) (fields k) ds) (left r next))
+        ∙ ap (λ (b : List ℕ). b ++ left r next) (sym (framed_item u optional (spelled r.tables (held r) (branch k ds))));
+      fits = fits_child u optional (branch k ds) st.allowed run.fits;
+      depth = depth_of_node (counted k) (ltb 512 d) d (depth_in ds) st.shallow (λ b. ltb-false _ _ b) small run.depth;
+      stands = run.stands;
+      forward = omega arith;
+      within = run.within;
+    }
+
+pub absent_found : (r : Range) (u : Union) (optional : Bool) (d : ℕ) (w : Bool) (at m : ℕ) → IsSound r → at ≤ r.end → d ≤ 513 → kind_at r u optional d w at ≡ Ok (None, m) → Found r (item_type u optional) d w at absent m
+absent_found r u optional d w at m sound order small e =
+    let st = absent_stands r u optional d w at m sound order e in
+    let mv = kind_moves r u optional d w at (None, m) sound order e in
+    record {
+      goes_on = λ es. node_goes r u optional d w at None m es sound order e;
+      spelled = st.0 ∙ ap (λ (b : List ℕ). b ++ left r m) (sym (framed_item u optional (varnum (kind_place r.tables Null))));
+      fits = fits_absent u optional st.1;
+      depth = omega arith;
+      stands = refl;
+      forward = mv.forward;
+      within = mv.within;
+    }
+
+-- the node of fields that fit and are not too deep is made
+pub node_made : (r : Range) (u : Union) (optional : Bool) (d : ℕ) (w : Bool) (at : ℕ) (k : Kind) (m : ℕ) (ds : Data) (next : ℕ) → IsSound r → at ≤ r.end → 1 ≤ d → d ≤ 513 → kind_at r u optional d w at ≡ Ok (Some k, m) → Run r (fields k) (below k d) w m ds next → node_of k ds ≡ Ok (branch k ds)
+node_made r u optional d w at k m ds next sound order one small e run =
+    let f = node_found r u optional d w at k m ds next sound order small e run in
+    let deep : depth (branch k ds) + d ≤ 513 = f.depth in
+    made_where_fit k ds run.fits (omega arith)
+
+kind_stops : (r : Range) (u : Union) (optional : Bool) (d : ℕ) (w : Bool) (at : ℕ) (f : FormatFault) (ds : List Due) → at ≤ r.end → kind_at r u optional d w at ≡ Err f → outcome_from r (due (item_type u optional) d w ∷ ds) at ≡ ends (Some f)
+kind_stops r u optional d w at f ds order e = from_fails r (due (item_type u optional) d w) ds at f order (kind_atom r u optional d w at (Err f) e)
+
+pub kind_fails : (r : Range) (u : Union) (optional : Bool) (d : ℕ) (w : Bool) (at : ℕ) (f : FormatFault) → at ≤ r.end → kind_at r u optional d w at ≡ Err f → Fails r (due (item_type u optional) d w ∷ []) at (Format f)
+kind_fails r u optional d w at f order e = λ ds. ap (λ (o : Outcome). o.fault) (kind_stops r u optional d w at f ds order e)
+
+pub kind_spends : (r : Range) (u : Union) (optional : Bool) (d : ℕ) (w : Bool) (at : ℕ) (f : FormatFault) (old new : ℕ) → at ≤ r.end → kind_at r u optional d w at ≡ Err f → new ≤ old + (r.end - at) → SpentFails r (due (item_type u optional) d w ∷ []) at old new
+kind_spends r u optional d w at f old new order e s = λ ds. subst (λ (o : Outcome). Spent o.windows at r.end old new) (sym (kind_stops r u optional d w at f ds order e)) (let none : Spent [] at r.end old new = omega arith in none)
+
+pub fields_fail : (r : Range) (u : Union) (optional : Bool) (d : ℕ) (w : Bool) (at : ℕ) (k : Kind) (m : ℕ) (e : Halt) → IsSound r → at ≤ r.end → kind_at r u optional d w at ≡ Ok (Some k, m) → Fails r (dues (fields k) (below k d) w) m e → Fails r (due (item_type u optional) d w ∷ []) at e
+fields_fail r u optional d w at k m Memory sound order e f = tt
+fields_fail r u optional d w at k m (Format x) sound order e f = λ ds. ap (λ (o : Outcome). o.fault) (node_goes r u optional d w at (Some k) m ds sound order e) ∙ f ds
+
+-- steps to a next place, and on from there to the end
+spent_on : (ws : List (ℕ × ℕ)) (at m end old mid new : ℕ) → at ≤ m → m ≤ end → mid ≤ old + (m - at) → Spent ws m end mid new → Spent ws at end old new
+spent_on ws at m end old mid new h k s t = omega arith
+
+pub fields_spend : (r : Range) (u : Union) (optional : Bool) (d : ℕ) (w : Bool) (at : ℕ) (k : Kind) (m : ℕ) (old mid new : ℕ) → IsSound r → at ≤ r.end → kind_at r u optional d w at ≡ Ok (Some k, m) → mid ≤ old + (m - at) → SpentFails r (dues (fields k) (below k d) w) m mid new → SpentFails r (due (item_type u optional) d w ∷ []) at old new
+fields_spend r u optional d w at k m old mid new sound order e s f = λ ds.
+    let mv = kind_moves r u optional d w at (Some k, m) sound order e in
+    let p = mv.forward in
+    subst (λ (o : Outcome). Spent o.windows at r.end old new) (sym (node_goes r u optional d w at (Some k) m ds sound order e))
+    (spent_on (outcome_from r (dues (fields k) (below k d) w ++ ds) m).windows at m r.end old mid new (omega arith) mv.within s (f ds))
+
+pub spent_node : (ws : List (ℕ × ℕ)) (at m next old mid new : ℕ) → at ≤ m → m ≤ next → mid ≤ old + (m - at) → Spent ws m next mid new → Spent ws at next old new
+spent_node ws at m next old mid new h k s t = omega arith
+
+-- ---- lists
+
+pub count_atom : (r : Range) (u : Union) (holes filled : Bool) (d : ℕ) (w : Bool) (at : ℕ) (q : Result (ℕ × ℕ) FormatFault) → count_at r filled at ≡ q → atom_of r (field.List u holes filled) d w at ≡ (q >>= λ n. is_ok (taken (dues (times n.0 (item_type u holes)) d w) [] n.1))
+count_atom r u holes filled d w at q e = ap (λ p. p >>= λ x. is_ok (taken (dues (times x.0 (item_type u holes)) d w) [] x.1)) e
+
+pub list_goes : (r : Range) (u : Union) (holes filled : Bool) (d : ℕ) (w : Bool) (at n m : ℕ) (ds : List Due) → IsSound r → at ≤ r.end → count_at r filled at ≡ Ok (n, m) → outcome_from r (due (field.List u holes filled) d w ∷ ds) at ≡ outcome_from r (dues (times n (item_type u holes)) d w ++ ds) m
+list_goes r u holes filled d w at n m ds sound order e = from_step r (due (field.List u holes filled) d w) ds at (taken (dues (times n (item_type u holes)) d w) [] m) sound order (count_atom r u holes filled d w at (Ok (n, m)) e)
+
+count_stops : (r : Range) (u : Union) (holes filled : Bool) (d : ℕ) (w : Bool) (at : ℕ) (f : FormatFault) (ds : List Due) → at ≤ r.end → count_at r filled at ≡ Err f → outcome_from r (due (field.List u holes filled) d w ∷ ds) at ≡ ends (Some f)
+count_stops r u holes filled d w at f ds order e = from_fails r (due (field.List u holes filled) d w) ds at f order (count_atom r u holes filled d w at (Err f) e)
+
+pub count_fails : (r : Range) (u : Union) (holes filled : Bool) (d : ℕ) (w : Bool) (at : ℕ) (f : FormatFault) → at ≤ r.end → count_at r filled at ≡ Err f → Fails r (due (field.List u holes filled) d w ∷ []) at (Format f)
+count_fails r u holes filled d w at f order e = λ ds. ap (λ (o : Outcome). o.fault) (count_stops r u holes filled d w at f ds order e)
+
+pub count_spends : (r : Range) (u : Union) (holes filled : Bool) (d : ℕ) (w : Bool) (at : ℕ) (f : FormatFault) (old new : ℕ) → at ≤ r.end → count_at r filled at ≡ Err f → new ≤ old + (r.end - at) → SpentFails r (due (field.List u holes filled) d w ∷ []) at old new
+count_spends r u holes filled d w at f old new order e s = λ ds. subst (λ (o : Outcome). Spent o.windows at r.end old new) (sym (count_stops r u holes filled d w at f ds order e)) (let none : Spent [] at r.end old new = omega arith in none)
+
+pub items_fail : (r : Range) (u : Union) (holes filled : Bool) (d : ℕ) (w : Bool) (at n m : ℕ) (e : Halt) → IsSound r → at ≤ r.end → count_at r filled at ≡ Ok (n, m) → Fails r (dues (times n (item_type u holes)) d w) m e → Fails r (due (field.List u holes filled) d w ∷ []) at e
+items_fail r u holes filled d w at n m Memory sound order e f = tt
+items_fail r u holes filled d w at n m (Format x) sound order e f = λ ds. ap (λ (o : Outcome). o.fault) (list_goes r u holes filled d w at n m ds sound order e) ∙ f ds
+
+pub items_spend : (r : Range) (u : Union) (holes filled : Bool) (d : ℕ) (w : Bool) (at n m : ℕ) (old mid new : ℕ) → IsSound r → at ≤ r.end → count_at r filled at ≡ Ok (n, m) → mid ≤ old + (m - at) → SpentFails r (dues (times n (item_type u holes)) d w) m mid new → SpentFails r (due (field.List u holes filled) d w ∷ []) at old new
+items_spend r u holes filled d w at n m old mid new sound order e s f = λ ds.
+    let mv = count_moves r filled at (n, m) sound order e in
+    let p = mv.forward in
+    subst (λ (o : Outcome). Spent o.windows at r.end old new) (sym (list_goes r u holes filled d w at n m ds sound order e))
+    (spent_on (outcome_from r (dues (times n (item_type u holes)) d w ++ ds) m).windows at m r.end old mid new (omega arith) mv.within s (f ds))
+
+-- items are spelled as nodes that may be absent
+item_spelled : (s : Tables) (h : Held) (u : Union) (holes : Bool) (d : Datum) → fits (item_type u holes) d ≡ true → spelled_at s h (item_type u holes) d ≡ spelled_at s h (field.Optional Body) d
+item_spelled s h u holes (child t) e = refl
+item_spelled s h u holes absent e = refl
+item_spelled s h u holes (listed ds) e = refl
+item_spelled s h u holes (flag b) e = refl
+item_spelled s h u holes (index n) e = refl
+item_spelled s h u holes (whole n) e = refl
+item_spelled s h u holes (name n) e = refl
+item_spelled s h u holes no_name e = refl
+item_spelled s h u true (choice n) e = cc
+item_spelled s h u false (choice n) e = cc
+item_spelled s h u holes (window from to) e = refl
+
+both_items : (s : Tables) (h : Held) (u : Union) (holes : Bool) (d : Datum) (xs ys : List ℕ) → fits (item_type u holes) d ≡ true → xs ≡ ys → framed (item_type u holes) (spelled_at s h (item_type u holes) d) ++ xs ≡ spelled_at s h (field.Optional Body) d ++ ys
+both_items s h u holes d xs ys e is = ap (λ (b : List ℕ). b ++ xs) (framed_item u holes (spelled_at s h (item_type u holes) d) ∙ item_spelled s h u holes d e) ∙ ap (λ (b : List ℕ). spelled_at s h (field.Optional Body) d ++ b) is
+
+pub spelled_times : (s : Tables) (h : Held) (n : ℕ) (u : Union) (holes : Bool) (ds : Data) → fit (times n (item_type u holes)) ds ≡ true → spelled_fields s h (times n (item_type u holes)) ds ≡ spelled_items s h ds
+spelled_times s h zero u holes none e = refl
+spelled_times s h zero u holes (more d ds) e = cc
+spelled_times s h (suc n) u holes none e = cc
+spelled_times s h (suc n) u holes (more d ds) e =
+    both_items s h u holes d _ _ (and_first (fits (item_type u holes) d) (fit (times n (item_type u holes)) ds) e) (spelled_times s h n u holes ds (and_second (fits (item_type u holes) d) (fit (times n (item_type u holes)) ds) e))
+
+both_fit : (a b c : Bool) → (a && b) ≡ true → (b ≡ true → c ≡ true) → (a && c) ≡ true
+both_fit true b c e f = f e
+both_fit false b c e f = cc
+
+items_fit_times : (n : ℕ) (u : Union) (holes : Bool) (ds : Data) → fit (times n (item_type u holes)) ds ≡ true → items_fit u holes ds ≡ true
+items_fit_times zero u holes none e = refl
+items_fit_times zero u holes (more d ds) e = cc
+items_fit_times (suc n) u holes none e = cc
+items_fit_times (suc n) u holes (more d ds) e = both_fit (fits (item_type u holes) d) (fit (times n (item_type u holes)) ds) (items_fit u holes ds) e (items_fit_times n u holes ds)
+
+length_times : (n : ℕ) (t : FieldType) → length (times n t) ≡ n
+length_times zero t = refl
+length_times (suc n) t = ap suc (length_times n t)
+
+pub record CountStands (r : Range) (filled : Bool) (at n m : ℕ) : Type 0 where
+  pub spelled : left r at ≡ varnum n ++ left r m
+  pub enough : (filled && eqb n 0) ≡ false
+
+pub count_stands : (r : Range) (filled : Bool) (at n m : ℕ) → IsSound r → at ≤ r.end → count_at r filled at ≡ Ok (n, m) → CountStands r filled at n m
+unfolding count_at
+count_stands r filled at n m sound order e =
+    let b = bind_ok (number_from r at) (λ x. cond (filled && eqb x.0 0) (Err (fault at EmptyList)) (Ok x)) (n, m) e in
+    let g = guard_ok (filled && eqb b.0.0 0) (fault at EmptyList) (Ok b.0) (n, m) b.2 in
+    let is : b.0 ≡ (n, m) = ok_is _ _ g.1 in
+    let sp = (number_spells r at b.0 sound order b.1).front in
+    subst (λ (x : ℕ × ℕ). CountStands r filled at x.0 x.1) is (record { spelled = sp; enough = g.0 })
+
+list_fits : (filled : Bool) (n : ℕ) (t : FieldType) (ds : Data) → (filled && eqb n 0) ≡ false → fit (times n t) ds ≡ true → (not filled || not (is_none ds)) ≡ true
+list_fits false n t ds e f = refl
+list_fits true n t (more d ds) e f = refl
+list_fits true zero t none e f = cc
+list_fits true (suc n) t none e f = cc
+
+pub list_found : (r : Range) (u : Union) (holes filled : Bool) (d : ℕ) (w : Bool) (at n m : ℕ) (ds : Data) (next : ℕ) → IsSound r → at ≤ r.end → count_at r filled at ≡ Ok (n, m) → Run r (times n (item_type u holes)) d w m ds next → Found r (field.List u holes filled) d w at (listed ds) next
+list_found r u holes filled d w at n m ds next sound order e run =
+    let st = count_stands r filled at n m sound order e in
+    let mv = count_moves r filled at (n, m) sound order e in
+    let p = mv.forward in let q = run.forward in
+    let many : count ds ≡ n = count_fit (times n (item_type u holes)) ds run.fits ∙ length_times n (item_type u holes) in
+    let bytes : spelled_fields r.tables (held r) (times n (item_type u holes)) ds ≡ spelled_items r.tables (held r) ds = spelled_times r.tables (held r) n u holes ds run.fits in
+    record {
+      goes_on = λ es. list_goes r u holes filled d w at n m es sound order e ∙ run.goes_on es;
+      spelled =
+        st.spelled
+        ∙ ap (λ (b : List ℕ). varnum n ++ b) run.spelled
+        ∙ sym (append_assoc (varnum n) (spelled_fields r.tables (held r) (times n (item_type u holes)) ds) (left r next))
+        ∙ ap (λ (b : List ℕ). (varnum n ++ b) ++ left r next) bytes
+        ∙ ap (λ (k : ℕ). (varnum k ++ spelled_items r.tables (held r) ds) ++ left r next) (sym many);
+      fits = rw (list_fits filled n (item_type u holes) ds st.enough run.fits, items_fit_times n u holes ds run.fits) refl;
+      depth = run.depth;
+      stands = run.stands;
+      forward = omega arith;
+      within = run.within;
+    }
+
+-- ---- what the code makes of a node
+
+bounds_of : (c b : Bool) (d : ℕ) → 1 ≤ d → d ≤ 513 → (c && b) ≡ false → (b ≡ false → d ≤ 512) → (1 ≤ cond c (d + 1) d) × (cond c (d + 1) d ≤ 513)
+bounds_of true b d one small e h = let k : d ≤ 512 = h e in (omega arith, omega arith)
+bounds_of false b d one small e h = (one, small)
+
+pub below_bounds : (k : Kind) (d : ℕ) → 1 ≤ d → d ≤ 513 → (counted k && ltb 512 d) ≡ false → (1 ≤ below k d) × (below k d ≤ 513)
+below_bounds k d one small shallow = bounds_of (counted k) (ltb 512 d) d one small shallow (λ b. ltb-false _ _ b)
+
+abbrev pub made_as : Tree → Result Tree NodeFault
+made_as t = Ok t
+
+abbrev pub fault_as : NodeFault → Result Tree NodeFault
+fault_as f = Err f
+
+pub node_is : (t u : Tree) (q : Result Tree NodeFault) → made_as t ≡ q → q ≡ made_as u → t ≡ u
+node_is t u q p e = let both : made_as t ≡ made_as u = p ∙ e in cc
+
+pub no_fault : (f : NodeFault) (u : Tree) (q : Result Tree NodeFault) → fault_as f ≡ q → q ≡ made_as u → ⊥
+no_fault f u q p e = let both : fault_as f ≡ made_as u = p ∙ e in cc

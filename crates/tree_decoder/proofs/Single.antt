@@ -1,0 +1,244 @@
+-- A value with no parts is spelled by the bytes that it was read from.
+use Rattle.std.proofs.Common.{ℕ, zero, suc, ◌+◌, ◌-◌, ◌^◌, ◌<◌, ◌≤◌, ◌≡◌, Bool, true, false, cond, ltb, eqb, ◌&&◌, List, [], ◌∷◌, ◌++◌, length, take, drop, get_or, Option, Some, None, Result, Ok, Err, refl, sym, ap, subst, ◌∙◌, arith, append_assoc, drop-cons, slice_get, slice_index, slice_range, inl, inr}
+use Rattle.std.specs.List.{All}
+use Rattle.std.specs.Option.{unwrap_or}
+use Rattle.std.specs.Int.{w64, from_be_bytes, to_be_bytes}
+use Rattle.std.proofs.lemmas.Bool.{ltb-false, ltb-true, lt-ltb, eqb-true, cases_lt}
+use Rattle.std.proofs.lemmas.Bool.Decides.{nat_tests}
+use Rattle.std.proofs.lemmas.List.{get_or_past}
+use Rattle.std.proofs.lemmas.List.Elements.{All-take, All-drop}
+use Rattle.std.specs.Prelude.{nat_le}
+use Rattle.std.proofs.lemmas.Nat.{be_bytes_8}
+use Rattle.std.proofs.lemmas.Option.{get_or_from_slice_get, slice_get_within}
+use Rattle.bast_base.specs.declared.errors.FormatFault.{FormatFault}
+use Rattle.bast_base.specs.declared.errors.Halt.TheVariants.{Format}
+use Rattle.bast_base.specs.declared.errors.Why.TheVariants.{Ended, BadVariant, BadBool, BadWhole}
+use Rattle.var_numbers.specs.Pattern.{pattern}
+use Rattle.var_numbers.specs.ReadClauses.{Spells}
+use Rattle.var_numbers.specs.Varnum.{varnum}
+use Rattle.var_numbers.proofs.RangeLemmas.{range-length}
+use Rattle.bast_schema.specs.declared.kind.EnumId.{EnumId}
+use Rattle.bast_schema.specs.declared.kind.FieldType.{FieldType}
+use Rattle.bast_schema.specs.declared.kind.FieldType.TheVariants as field
+use Rattle.bast_schema.specs.declared.kind.Union.{Union}
+use Rattle.bast_schema.specs.Choices.{choice_texts, choice_of_text}
+use Rattle.bast_schema.specs.Held.{text_of, bytes_of}
+use Rattle.bast_schema.specs.Tree.{Datum, flag, index, whole, name, no_name, choice, window, fits, depth_at}
+use Rattle.bast_schema.proofs.ChoiceTexts.{text_of_choice}
+use Rattle.string_table.specs.Entries.{place_in}
+use Rattle.string_table.proofs.Laws.{place_in-own}
+use Rattle.container.specs.Atoms.{chosen}
+use Rattle.container.specs.Spelled.{framed, spelled_at}
+use Rattle.container.specs.Tables.{text_place}
+use Rattle.tree_decoder.specs.Dues.{Due, due, Taken, taken, atom_of}
+use Rattle.tree_decoder.specs.Found.{Found, Fails, SpentFails, Spent, stands_at, is_text}
+use Rattle.tree_decoder.specs.Numbers.{fault, ◌>>=◌, number_from, name_of, label_of, variant_of, choice_at, window_of, whole_with, whole_or, whole_at, flag_of, flag_at, numbered, leaf_at, is_leaf}
+use Rattle.tree_decoder.specs.Outcome.{Outcome, outcome_from}
+use Rattle.tree_decoder.specs.Range.{Range, IsSound, held, left}
+use Rattle.tree_decoder.specs.Windows.{windows_at, skipped}
+use Rattle.tree_decoder.proofs.Machine.{from_step, from_fails}
+use Rattle.tree_decoder.proofs.Moves.{leaf_moves}
+use Rattle.tree_decoder.proofs.Spells.{bind_ok, guard_ok, chosen_ok, is_ok, ok_is, number_spells, range_split}
+use Rattle.tree_decoder.proofs.Wholes.{whole_is}
+
+pub record Stands (r : Range) (t : FieldType) (at : ℕ) (x : Datum × ℕ) : Type 0 where
+  pub spelled : left r at ≡ framed t (spelled_at r.tables (held r) t x.0) ++ left r x.1
+  pub fits : fits t x.0 ≡ true
+  pub flat : depth_at x.0 ≡ 0
+  pub stands : stands_at r x.0 ≡ true
+
+made : (r : Range) (t : FieldType) (at : ℕ) (v : Datum) (next : ℕ) (x : Datum × ℕ) → (v, next) ≡ x → left r at ≡ framed t (spelled_at r.tables (held r) t v) ++ left r next → fits t v ≡ true → depth_at v ≡ 0 → stands_at r v ≡ true → Stands r t at x
+made r t at v next x e sp f g st = subst (λ (y : Datum × ℕ). Stands r t at y) e (record { spelled = sp; fits = f; flat = g; stands = st })
+
+-- ---- texts
+
+-- an entry is spelled by its number
+entry_place : (r : Range) (n : ℕ) (entry : Option (List ℕ)) → IsSound r → slice_get r.tables.texts n ≡ Some entry → text_place r.tables entry ≡ n
+entry_place r n entry sound is = ap (λ (o : Option ℕ). unwrap_or o (length r.tables.texts)) (place_in-own r.tables.texts entry n sound.texts is)
+
+entry_text : (r : Range) (n : ℕ) (entry : Option (List ℕ)) → slice_get r.tables.texts n ≡ Some entry → text_of (held r) n ≡ entry
+entry_text r n entry is = get_or_from_slice_get r.tables.texts n entry None is
+
+spelled_as : (r : Range) (at m n next : ℕ) → m ≡ n → left r at ≡ varnum n ++ left r next → left r at ≡ varnum m ++ left r next
+spelled_as r at m n next same e = e ∙ ap (λ (k : ℕ). varnum k ++ left r next) (sym same)
+
+name_place : (r : Range) (n : ℕ) (text : List ℕ) → IsSound r → slice_get r.tables.texts n ≡ Some (Some text) → text_place r.tables (text_of (held r) n) ≡ n
+name_place r n text sound is = ap (text_place r.tables) (entry_text r n (Some text) is) ∙ entry_place r n (Some text) sound is
+
+name_stands : (r : Range) (t : FieldType) (at n next : ℕ) (o : Option (Option (List ℕ))) (x : Datum × ℕ) → IsSound r → slice_get r.tables.texts n ≡ o → left r at ≡ varnum n ++ left r next → ((m : ℕ) → fits t (name m) ≡ true) → ((bytes : List ℕ) → framed t bytes ≡ bytes) → name_of at n next o ≡ Ok x → Stands r t at x
+name_stands r t at n next (Some (Some text)) x sound is sp fit plain e =
+    made r t at (name n) next x (ok_is _ _ e) (spelled_as r at _ n next (name_place r n text sound is) sp ∙ ap (λ (b : List ℕ). b ++ left r next) (sym (plain (varnum (text_place r.tables (text_of (held r) n)))))) (fit n) refl (ap is_text is)
+name_stands r t at n next (Some None) x sound is sp fit plain e = absurd cc
+name_stands r t at n next None x sound is sp fit plain e = absurd cc
+
+label_stands : (r : Range) (at n next : ℕ) (o : Option (Option (List ℕ))) (x : Datum × ℕ) → IsSound r → slice_get r.tables.texts n ≡ o → left r at ≡ varnum n ++ left r next → label_of at n next o ≡ Ok x → Stands r field.Label at x
+label_stands r at n next (Some (Some text)) x sound is sp e =
+    made r field.Label at (name n) next x (ok_is _ _ e) (spelled_as r at _ n next (name_place r n text sound is) sp) refl refl (ap is_text is)
+label_stands r at n next (Some None) x sound is sp e =
+    made r field.Label at no_name next x (ok_is _ _ e) (spelled_as r at _ n next (entry_place r n None sound is) sp) refl refl refl
+label_stands r at n next None x sound is sp e = absurd cc
+
+variant_stands : (r : Range) (set : EnumId) (at n next : ℕ) (text : List ℕ) (o : Option ℕ) (x : Datum × ℕ) → IsSound r → slice_get r.tables.texts n ≡ Some (Some text) → choice_of_text set text ≡ o → left r at ≡ varnum n ++ left r next → variant_of at next o ≡ Ok x → Stands r (field.Choice set) at x
+variant_stands r set at n next text (Some c) x sound is found sp e =
+    let there : slice_get (choice_texts set) c ≡ Some text = text_of_choice set text c found in
+    let same : chosen (field.Choice set) c ≡ Some text = ap Some (get_or_from_slice_get (choice_texts set) c text [] there) in
+    let place : text_place r.tables (chosen (field.Choice set) c) ≡ n = ap (text_place r.tables) same ∙ entry_place r n (Some text) sound is in
+    made r (field.Choice set) at (choice c) next x (ok_is _ _ e) (spelled_as r at _ n next place sp) (lt-ltb _ _ (slice_get_within (choice_texts set) c text there)) refl refl
+variant_stands r set at n next text None x sound is found sp e = absurd cc
+
+choice_stands : (r : Range) (set : EnumId) (at n next : ℕ) (o : Option (Option (List ℕ))) (x : Datum × ℕ) → IsSound r → slice_get r.tables.texts n ≡ o → left r at ≡ varnum n ++ left r next → choice_at set at next o ≡ Ok x → Stands r (field.Choice set) at x
+choice_stands r set at n next (Some (Some text)) x sound is sp e = variant_stands r set at n next text (choice_of_text set text) x sound is refl sp e
+choice_stands r set at n next (Some None) x sound is sp e = absurd cc
+choice_stands r set at n next None x sound is sp e = absurd cc
+
+-- ---- windows
+
+is_le : (m n : ℕ) → m ≤ n → nat_le m n ≡ true
+is_le m n h = grind (arith, nat_tests)
+
+both_true : (a b : Bool) → a ≡ true → b ≡ true → (a && b) ≡ true
+both_true true b p q = q
+both_true false b p q = cc
+
+window_spelled : (r : Range) (u : Union) (at n next : ℕ) → IsSound r → next + n ≤ r.end → left r at ≡ varnum n ++ left r next → left r at ≡ framed (field.Lazy u) (bytes_of (held r) next (next + n)) ++ left r (next + n)
+window_spelled r u at n next sound far e =
+    let within : r.end ≤ length r.tape = sound.within in
+    let long : length (slice_range r.tape next (next + n)) ≡ n = range-length r.tape next (next + n) (omega arith) (omega arith) ∙ (let k : next + n - next ≡ n = omega arith in k) in
+    e
+    ∙ ap (λ (b : List ℕ). varnum n ++ b) (range_split r.tape next (next + n) r.end (omega arith) far)
+    ∙ sym (append_assoc (varnum n) (slice_range r.tape next (next + n)) (left r (next + n)))
+    ∙ ap (λ (k : ℕ). (varnum k ++ slice_range r.tape next (next + n)) ++ left r (next + n)) (sym long)
+
+window_stands : (r : Range) (u : Union) (at n next : ℕ) (x : Datum × ℕ) → IsSound r → left r at ≡ varnum n ++ left r next → window_of r n next ≡ Ok x → Stands r (field.Lazy u) at x
+window_stands r u at n next x sound sp e =
+    let g = guard_ok (ltb r.end (next + n)) (fault r.end Ended) (is_ok (window next (next + n), next + n)) x e in
+    let far : next + n ≤ r.end = ltb-false _ _ g.0 in
+    made r (field.Lazy u) at (window next (next + n)) (next + n) x (ok_is _ _ g.1) (window_spelled r u at n next sound far sp) refl refl (both_true _ _ (is_le next (next + n) (omega arith)) (is_le (next + n) r.end far))
+
+-- ---- by a number
+
+numbered_stands : (r : Range) (t : FieldType) (at n next : ℕ) (x : Datum × ℕ) → IsSound r → left r at ≡ varnum n ++ left r next → n < 2 ^ 32 → numbered r t at n next ≡ Ok x → Stands r t at x
+numbered_stands r field.Index at n next x sound sp less e = made r field.Index at (index n) next x (ok_is _ _ e) sp (lt-ltb _ _ less) refl refl
+numbered_stands r field.Text at n next x sound sp less e = name_stands r field.Text at n next _ x sound refl sp (λ m. refl) (λ b. refl) e
+numbered_stands r field.Name at n next x sound sp less e = name_stands r field.Name at n next _ x sound refl sp (λ m. refl) (λ b. refl) e
+numbered_stands r field.Label at n next x sound sp less e = label_stands r at n next _ x sound refl sp e
+numbered_stands r (field.Choice set) at n next x sound sp less e = choice_stands r set at n next _ x sound refl sp e
+numbered_stands r (field.Lazy u) at n next x sound sp less e = window_stands r u at n next x sound sp e
+numbered_stands r field.Bool at n next x sound sp less e = absurd cc
+numbered_stands r field.Whole at n next x sound sp less e = absurd cc
+numbered_stands r (field.Node u) at n next x sound sp less e = absurd cc
+numbered_stands r (field.Optional u) at n next x sound sp less e = absurd cc
+numbered_stands r (field.List u holes filled) at n next x sound sp less e = absurd cc
+
+by_number : (r : Range) (t : FieldType) (at : ℕ) (x : Datum × ℕ) → IsSound r → at ≤ r.end → (number_from r at >>= λ n. numbered r t at n.0 n.1) ≡ Ok x → Stands r t at x
+by_number r t at x sound order e =
+    let b = bind_ok (number_from r at) (λ n. numbered r t at n.0 n.1) x e in
+    let s = number_spells r at b.0 sound order b.1 in
+    numbered_stands r t at b.0.0 b.0.1 x sound s.front s.small b.2
+
+-- ---- by bytes
+
+first_byte : (r : Range) (at : ℕ) → IsSound r → at < r.end → left r at ≡ slice_index r.tape at ∷ left r (at + 1)
+first_byte r at sound within =
+    let there : r.end ≤ length r.tape = sound.within in
+    let some : r.end - at ≡ suc (r.end - (at + 1)) = omega arith in
+    let next : suc at ≡ at + 1 = omega arith in
+    ap (λ (k : ℕ). take k (drop at r.tape)) some
+    ∙ ap (λ (xs : List ℕ). take (suc (r.end - (at + 1))) xs) (drop-cons r.tape at 0 (omega arith))
+    ∙ ap (λ (k : ℕ). slice_index r.tape at ∷ take (r.end - (at + 1)) (drop k r.tape)) next
+
+bool_stands : (r : Range) (at n : ℕ) (a b : Bool) (x : Datum × ℕ) → eqb n 0 ≡ a → eqb n 1 ≡ b → left r at ≡ n ∷ left r (at + 1) → cond a (is_ok (flag false, at + 1)) (cond b (is_ok (flag true, at + 1)) (Err (fault at BadBool))) ≡ Ok x → Stands r field.Bool at x
+bool_stands r at n true b x p q sp e = let z : n ≡ 0 = eqb-true _ _ p in made r field.Bool at (flag false) (at + 1) x (ok_is _ _ e) (sp ∙ ap (λ (k : ℕ). k ∷ left r (at + 1)) z) refl refl refl
+bool_stands r at n false true x p q sp e = let z : n ≡ 1 = eqb-true _ _ q in made r field.Bool at (flag true) (at + 1) x (ok_is _ _ e) (sp ∙ ap (λ (k : ℕ). k ∷ left r (at + 1)) z) refl refl refl
+bool_stands r at n false false x p q sp e = absurd cc
+
+before_end : (r : Range) (at : ℕ) (b : Bool) (x : Datum × ℕ) → cond b (flag_of at (slice_index r.tape at)) (Err (fault r.end Ended)) ≡ Ok x → (b ≡ true) × (flag_of at (slice_index r.tape at) ≡ Ok x)
+before_end r at true x e = (refl, e)
+before_end r at false x e = absurd cc
+
+flag_stands : (r : Range) (at : ℕ) (x : Datum × ℕ) → IsSound r → flag_at r at ≡ Ok x → Stands r field.Bool at x
+unfolding flag_at
+flag_stands r at x sound e =
+    let g = before_end r at (ltb at r.end) x e in
+    bool_stands r at (slice_index r.tape at) (eqb (slice_index r.tape at) 0) (eqb (slice_index r.tape at) 1) x refl refl (first_byte r at sound (ltb-true _ _ g.0)) g.1
+
+range_byte : (r : Range) (a b i : ℕ) → IsSound r → a ≤ b → b ≤ length r.tape → All (λ byte. byte < 256) (slice_range r.tape a b) → get_or (slice_range r.tape a b) i 0 < 256
+range_byte r a b i sound order within small =
+    elim (cases_lt i (length (slice_range r.tape a b))) [
+      | inl lt ↦ small i 0 lt
+      | inr le ↦ rw (get_or_past (slice_range r.tape a b) i 0 le) (omega arith)
+    ]
+
+eight_spelled : (r : Range) (at n : ℕ) → IsSound r → at + 8 ≤ r.end → pattern n ≡ from_be_bytes w64 (slice_range r.tape at (at + 8)) → left r at ≡ to_be_bytes w64 (pattern n) ++ left r (at + 8)
+eight_spelled r at n sound far is =
+    let within : r.end ≤ length r.tape = sound.within in
+    let bytes = slice_range r.tape at (at + 8) in
+    let long : length (slice_range r.tape at (at + 8)) ≡ 8 = range-length r.tape at (at + 8) (omega arith) (omega arith) ∙ (let k : at + 8 - at ≡ 8 = omega arith in k) in
+    let small = All-take (λ byte. byte < 256) (at + 8 - at) (drop at r.tape) (All-drop (λ byte. byte < 256) at r.tape sound.bytes) in
+    let again : to_be_bytes w64 (pattern n) ≡ slice_range r.tape at (at + 8) = be_bytes_8 (slice_range r.tape at (at + 8)) (pattern n) long (λ i. range_byte r at (at + 8) i sound (omega arith) (omega arith) small) is in
+    range_split r.tape at (at + 8) r.end (omega arith) far ∙ ap (λ (b : List ℕ). b ++ left r (at + 8)) (sym again)
+
+whole_stands_of : (r : Range) (at : ℕ) (o : Option ℕ) (x : Datum × ℕ) → IsSound r → at + 8 ≤ r.end → whole_with (from_be_bytes w64 (slice_range r.tape at (at + 8))) ≡ o → whole_or at o ≡ Ok x → Stands r field.Whole at x
+whole_stands_of r at (Some n) x sound far is e =
+    let w = whole_is (from_be_bytes w64 (slice_range r.tape at (at + 8))) n is in
+    made r field.Whole at (whole n) (at + 8) x (ok_is _ _ e) (eight_spelled r at n sound far w.1) (lt-ltb _ _ w.0) refl refl
+whole_stands_of r at None x sound far is e = absurd cc
+
+whole_stands : (r : Range) (at : ℕ) (x : Datum × ℕ) → IsSound r → whole_at r at ≡ Ok x → Stands r field.Whole at x
+unfolding whole_at
+whole_stands r at x sound e =
+    let bits = from_be_bytes w64 (slice_range r.tape at (at + 8)) in
+    let g = guard_ok (ltb r.end (at + 8)) (fault r.end Ended) (whole_or at (whole_with bits)) x e in
+    whole_stands_of r at (whole_with bits) x sound (ltb-false _ _ g.0) refl g.1
+
+-- ---- all of them
+
+pub leaf_stands : (r : Range) (t : FieldType) (at : ℕ) (x : Datum × ℕ) → IsSound r → at ≤ r.end → is_leaf t ≡ true → leaf_at r t at ≡ Ok x → Stands r t at x
+leaf_stands r field.Bool at x sound order leaf e = flag_stands r at x sound e
+leaf_stands r field.Whole at x sound order leaf e = whole_stands r at x sound e
+leaf_stands r field.Index at x sound order leaf e = by_number r field.Index at x sound order e
+leaf_stands r field.Text at x sound order leaf e = by_number r field.Text at x sound order e
+leaf_stands r field.Name at x sound order leaf e = by_number r field.Name at x sound order e
+leaf_stands r field.Label at x sound order leaf e = by_number r field.Label at x sound order e
+leaf_stands r (field.Choice set) at x sound order leaf e = by_number r (field.Choice set) at x sound order e
+leaf_stands r (field.Lazy u) at x sound order leaf e = by_number r (field.Lazy u) at x sound order e
+leaf_stands r (field.Node u) at x sound order leaf e = absurd cc
+leaf_stands r (field.Optional u) at x sound order leaf e = absurd cc
+leaf_stands r (field.List u holes filled) at x sound order leaf e = absurd cc
+
+pub leaf_atom : (r : Range) (t : FieldType) (d : ℕ) (w : Bool) (at : ℕ) (q : Result (Datum × ℕ) FormatFault) → is_leaf t ≡ true → leaf_at r t at ≡ q → atom_of r t d w at ≡ (q >>= λ v. is_ok (taken [] (windows_at v.0) v.1))
+leaf_atom r (field.Node u) d w at q leaf e = absurd cc
+leaf_atom r (field.Optional u) d w at q leaf e = absurd cc
+leaf_atom r (field.List u holes filled) d w at q leaf e = absurd cc
+leaf_atom r field.Bool d w at q leaf e = ap (λ p. p >>= λ v. is_ok (taken [] (windows_at v.0) v.1)) e
+leaf_atom r field.Index d w at q leaf e = ap (λ p. p >>= λ v. is_ok (taken [] (windows_at v.0) v.1)) e
+leaf_atom r field.Whole d w at q leaf e = ap (λ p. p >>= λ v. is_ok (taken [] (windows_at v.0) v.1)) e
+leaf_atom r field.Text d w at q leaf e = ap (λ p. p >>= λ v. is_ok (taken [] (windows_at v.0) v.1)) e
+leaf_atom r field.Name d w at q leaf e = ap (λ p. p >>= λ v. is_ok (taken [] (windows_at v.0) v.1)) e
+leaf_atom r field.Label d w at q leaf e = ap (λ p. p >>= λ v. is_ok (taken [] (windows_at v.0) v.1)) e
+leaf_atom r (field.Choice set) d w at q leaf e = ap (λ p. p >>= λ v. is_ok (taken [] (windows_at v.0) v.1)) e
+leaf_atom r (field.Lazy u) d w at q leaf e = ap (λ p. p >>= λ v. is_ok (taken [] (windows_at v.0) v.1)) e
+
+pub leaf_found : (r : Range) (t : FieldType) (d : ℕ) (w : Bool) (at : ℕ) (x : Datum × ℕ) → IsSound r → at ≤ r.end → d ≤ 513 → is_leaf t ≡ true → leaf_at r t at ≡ Ok x → Found r t d w at x.0 x.1
+leaf_found r t d w at x sound order small leaf e =
+    let st = leaf_stands r t at x sound order leaf e in
+    let mv = leaf_moves r t at x sound order e in
+    let flat = st.flat in
+    record {
+      goes_on = λ ds. from_step r (due t d w) ds at (taken [] (windows_at x.0) x.1) sound order (leaf_atom r t d w at (Ok x) leaf e);
+      spelled = st.spelled;
+      fits = st.fits;
+      depth = omega arith;
+      stands = st.stands;
+      forward = mv.forward;
+      within = mv.within;
+    }
+
+leaf_stops : (r : Range) (t : FieldType) (d : ℕ) (w : Bool) (at : ℕ) (f : FormatFault) (ds : List Due) → at ≤ r.end → is_leaf t ≡ true → leaf_at r t at ≡ Err f → outcome_from r (due t d w ∷ ds) at ≡ record { windows = []; fault = Some f }
+leaf_stops r t d w at f ds order leaf e = from_fails r (due t d w) ds at f order (leaf_atom r t d w at (Err f) leaf e)
+
+pub leaf_fails : (r : Range) (t : FieldType) (d : ℕ) (w : Bool) (at : ℕ) (f : FormatFault) → at ≤ r.end → is_leaf t ≡ true → leaf_at r t at ≡ Err f → Fails r (due t d w ∷ []) at (Format f)
+leaf_fails r t d w at f order leaf e = λ ds. ap (λ (o : Outcome). o.fault) (leaf_stops r t d w at f ds order leaf e)
+
+pub leaf_spends : (r : Range) (t : FieldType) (d : ℕ) (w : Bool) (at : ℕ) (f : FormatFault) (old new : ℕ) → at ≤ r.end → is_leaf t ≡ true → leaf_at r t at ≡ Err f → Spent [] at r.end old new → SpentFails r (due t d w ∷ []) at old new
+leaf_spends r t d w at f old new order leaf e spent = λ ds. subst (λ (o : Outcome). Spent o.windows at r.end old new) (sym (leaf_stops r t d w at f ds order leaf e)) spent

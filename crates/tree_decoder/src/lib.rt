@@ -1,0 +1,8 @@
+//! The reader of trees: from the bytes of a range to the tree that they spell, or to their first fault.
+#![tactic(auto)]
+
+mod cursor;
+mod leaves;
+mod reading;
+
+pub use reading::read_tree;
