@@ -1,10 +1,7 @@
 ghost use Rattle.std.specs.Prelude.{◌≡◌, ◌≤◌, ◌+◌, length, sum, nat_eq, is_none, IfSome};
-ghost use Rattle.std.specs.Io.KnownBytes.{Appends};
 ghost use Rattle.bast_base.specs.Causes.{Rose};
 ghost use Rattle.bast_base.specs.Source.{TakesAtMost, TakesMore};
-ghost use Rattle.binast_run.specs.Outcome.{answer_in};
-ghost use Rattle.binast_run.specs.Output.{AppendsFront};
-ghost use Rattle.binast_run.specs.Result.{looked, result_of, Answers, Notes};
+ghost use Rattle.binast_run.specs.Result.{looked, Notes, Outputs, OutputsFront, Refuses};
 ghost use Rattle.binast_run.specs.Status.{code, line_of};
 ghost use Rattle.binast_run.specs.Words.{command_in};
 ghost use Rattle.binast_run.specs.declared.status.Fault.TheVariants.{BadWords, ReadFault, WriteFault, OutOfMemory, TooLarge};
@@ -37,12 +34,10 @@ pub fn run<L: Send + Sync, S: Source<L>, K: Sink, N: Sink, G: Gate>(
     requires { length steps.old ≡ 64 }
 
     // An answer is that of the words and the whole input.
-    ensures done { result ≡ 0 → Answers words.now (S.left source.old) (S.left source.new) 0
-        × IfSome (S.left source.old) (λ input. Appends (K.written sink.old) (K.written sink.new) (result_of words.now input).text)
+    ensures done { result ≡ 0 → Outputs words.now (S.left source.old) (S.left source.new) (K.written sink.old) (K.written sink.new)
         × (N.written notes.new ≡ N.written notes.old) }
-    ensures refused { result ≡ 1 → Answers words.now (S.left source.old) (S.left source.new) 1
-        × (K.written sink.new ≡ K.written sink.old)
-        × IfSome (S.left source.old) (λ input. Notes (N.written notes.old) (N.written notes.new) (N.faults notes.old) (N.faults notes.new) (result_of words.now input).text) }
+    ensures refused { result ≡ 1 → Refuses words.now (S.left source.old) (S.left source.new) (N.written notes.old) (N.written notes.new) (N.faults notes.old) (N.faults notes.new)
+        × (K.written sink.new ≡ K.written sink.old) }
 
     // Words that ask for no command are told without reading.
     ensures words { nat_eq result 2 ≡ is_none (command_in words.now) }
@@ -51,8 +46,7 @@ pub fn run<L: Send + Sync, S: Source<L>, K: Sink, N: Sink, G: Gate>(
     // Each fault has its cause.
     ensures read_fault { result ≡ 3 → Rose (S.faults source.old) (S.faults source.new)
         × TakesAtMost (S.left source.old) (S.left source.new) 8388608 }
-    ensures write_fault { result ≡ 4 → Answers words.now (S.left source.old) (S.left source.new) 0
-        × IfSome (S.left source.old) (λ input. AppendsFront (K.written sink.old) (K.written sink.new) (result_of words.now input).text)
+    ensures write_fault { result ≡ 4 → OutputsFront words.now (S.left source.old) (S.left source.new) (K.written sink.old) (K.written sink.new)
         × Rose (K.faults sink.old) (K.faults sink.new) }
     ensures too_large { result ≡ 6 → TakesMore (S.left source.old) (S.left source.new) 8388608 }
     ensures top { result ≤ 6 }
