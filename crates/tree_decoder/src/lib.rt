@@ -4,5 +4,7 @@
 mod cursor;
 mod leaves;
 mod reading;
+#[cfg(test)]
+mod tests;
 
 pub use reading::read_tree;
