@@ -5,8 +5,8 @@ use Rattle.bast_schema.specs.Fields.{fields, field_names}
 use Rattle.bast_schema.specs.Tree.{branch}
 use Rattle.bast_schema.specs.View.{datum, data_of}
 use Rattle.bast_schema.proofs.Lists.{weight_member}
-use Rattle.js_printer.specs.Listing.{field_lines, fields_lines, item_lines, items_lines, shown_all, line}
-use Rattle.js_printer.proofs.Listed.{fields_drop, fit_length, fits_here, goes_on, items_drop, list_left, named_member, node_left, saturated, whole_member}
+use Rattle.js_printer.specs.Listing.{field_lines, fields_lines, items_lines, shown_all, line}
+use Rattle.js_printer.proofs.Listed.{fields_drop, fit_length, fits_here, goes_on, list_left, named_member, node_left, saturated, whole_member}
 use Rattle.js_printer.proofs.listing.+listing.Goals as goal
 
 pub put_node-returns : goal.put_node-returns
