@@ -1,4 +1,5 @@
 pub mod File
+pub mod FirstKinds
 pub mod FirstSource
 pub mod Laws
 pub mod Outcome
