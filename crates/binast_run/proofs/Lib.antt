@@ -1,4 +1,7 @@
 pub mod DigitLemmas
+pub mod FirstKinds
+pub mod FirstWhole
+pub mod NodesSpelled
 pub mod OutputLemmas
 pub mod SourceFile
 pub mod Used

@@ -3,6 +3,7 @@
 
 mod command;
 mod encode;
+mod first_kinds;
 mod first_source;
 mod gate;
 mod laws;
