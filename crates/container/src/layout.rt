@@ -8,14 +8,12 @@ ghost use Rattle.var_numbers.specs.Varnum.{varnum};
 
 use crate::parts::{read_fixed, read_section};
 use crate::tables::{check_end, read_kinds, read_texts};
+use crate::writing::VERSION;
 use bast_base::{FormatFault, Halt, Steps, Tape, Why};
 use bast_schema::KindTable;
 use std::alloc::Global;
 use string_table::StringTable;
 use var_numbers::read_varnum;
-
-// The version that is read.
-const VERSION: u32 = 1;
 
 /// The two tables of a file, and where the bytes of its tree begin and end, counted from the file's start.
 #[derive(Drop)]

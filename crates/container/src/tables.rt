@@ -8,15 +8,13 @@ ghost use Rattle.container.specs.Parts.{done_at};
 ghost use Rattle.string_table.specs.Entries.{place_in};
 
 use crate::parts::read_counted;
+use crate::writing::ABSENT;
 use bast_base::{FormatFault, Halt, Steps, Tape, Why};
 use bast_schema::{Added, Kind, KindTable, kind_named};
 use simdutf8::compat::from_utf8;
 use std::alloc::Global;
 use string_table::{AddedName, Entry, StringTable};
 use var_numbers::read_varnum;
-
-// What stands for the absent string: two bytes that are no text.
-const ABSENT: [u8; 2] = [0xFF, 0];
 
 // The kinds that are all of a section's content.
 pub(crate) fn read_kinds<L>(

@@ -1,3 +1,5 @@
+ghost use Rattle.std.specs.Prelude.{◌≡◌, ◌≤◌, length, IfOk};
+
 use super::*;
 use bast_base::{FormatFault, Halt, Plain, Steps, Tape, Why};
 use std::alloc::{AllocError, Global};
@@ -263,5 +265,28 @@ fn a_container_is_read(rt: HostRuntime) -> Result<(), Fail> {
     assert_eq!(rt; read(alloc, wrong), Some((2, 0, 95, 105)));
     let strings = edited(alloc, 77, 79, b"\x18\x06\x00\x04\xFF\x00\x0CScript")?;
     assert_eq!(rt; read(alloc, strings), Some((2, 3, 106, 112)));
+    Ok(())
+}
+
+// What is read of a file, written again.
+fn rewritten(alloc: Global, bytes: Vec<u8>) -> Result<Vec<u8>, Halt>
+    requires { length bytes.items ≤ 8388608 }
+    ensures { IfOk result (λ v. v.items ≡ bytes.items) }
+{
+    let tape = Tape::<Plain>::from_vec(bytes);
+    let mut steps = Steps::start();
+    let layout = read_layout(alloc, &tape, &mut steps)?;
+    let tree = tape.copy(alloc, layout.from, layout.to, &mut steps)?;
+    Ok(write_file(alloc, &layout.kinds, &layout.strings, tree.as_slice())?)
+}
+
+#[test]
+fn a_container_is_written_as_it_was_read(rt: HostRuntime) -> Result<(), Fail> {
+    let alloc = rt.alloc();
+    let bytes = FILE.to_vec(alloc)?;
+    let Ok(again) = rewritten(alloc, bytes) else {
+        return Err(Fail::new("not written"));
+    };
+    assert_eq!(rt; again.as_slice(), FILE);
     Ok(())
 }

@@ -8,10 +8,11 @@ use std::alloc::Global;
 use string_table::StringTable;
 use var_numbers::put_varnum;
 
-const VERSION: u32 = 1;
+// The version of the format.
+pub(crate) const VERSION: u32 = 1;
 
 // What stands for the absent string: two bytes that are no text.
-const ABSENT: [u8; 2] = [0xFF, 0];
+pub(crate) const ABSENT: [u8; 2] = [0xFF, 0];
 
 /// The file over two tables and the bytes of a tree.
 #[tactic(auto, unfolding(crate::specs::Container::container))]
