@@ -1,9 +1,5 @@
 -- The kinds that a first source makes, and the first node of a tree that is of another.
-<<<<<<< HEAD
-use Rattle.std.specs.Prelude.{ℕ, Bool, true, false, not, List, [], ◌∷◌, ◌+◌, ◌++◌, Option, Some, None, Result, Ok, Err, if◌then◌else◌}
-=======
 use Rattle.std.specs.Prelude.{ℕ, Bool, true, false, not, List, [], ◌∷◌, ◌+◌, ◌++◌, Option, Result, Ok, Err, if◌then◌else◌}
->>>>>>> a642efabe530d1b956008a47820491f086ffe88a
 use Rattle.std.specs.List.{position_from}
 use Rattle.bast_schema.specs.declared.kind.Kind.{Kind}
 use Rattle.bast_schema.specs.declared.kind.Kind.TheVariants.{Null, Script, AssertedScriptGlobalScope, ExpressionStatement, LiteralNumericExpression}
