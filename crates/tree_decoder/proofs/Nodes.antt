@@ -146,10 +146,10 @@ node_found r u optional d w at k m ds next sound order small e run =
     record {
       goes_on = λ es. node_goes r u optional d w at (Some k) m es sound order e ∙ run.goes_on es;
       spelled =
-        st.spelled
-        ∙ ap (λ (b : List ℕ). varnum (kind_place r.tables k) ++ b) run.spelled
-        ∙ sym (append_assoc (varnum (kind_place r.tables k)) (spelled_fields r.tables (held r) (fields k) ds) (left r next))
-        ∙ ap (λ (b : List ℕ). b ++ left r next) (sym (framed_item u optional (spelled r.tables (held r) (branch k ds))));
+          st.spelled
+          ∙ ap (λ (b : List ℕ). varnum (kind_place r.tables k) ++ b) run.spelled
+          ∙ sym (append_assoc (varnum (kind_place r.tables k)) (spelled_fields r.tables (held r) (fields k) ds) (left r next))
+          ∙ ap (λ (b : List ℕ). b ++ left r next) (sym (framed_item u optional (spelled r.tables (held r) (branch k ds))));
       fits = fits_child u optional (branch k ds) st.allowed run.fits;
       depth = depth_of_node (counted k) (ltb 512 d) d (depth_in ds) st.shallow (λ b. ltb-false _ _ b) small run.depth;
       stands = run.stands;
@@ -300,11 +300,11 @@ list_found r u holes filled d w at n m ds next sound order e run =
     record {
       goes_on = λ es. list_goes r u holes filled d w at n m es sound order e ∙ run.goes_on es;
       spelled =
-        st.spelled
-        ∙ ap (λ (b : List ℕ). varnum n ++ b) run.spelled
-        ∙ sym (append_assoc (varnum n) (spelled_fields r.tables (held r) (times n (item_type u holes)) ds) (left r next))
-        ∙ ap (λ (b : List ℕ). (varnum n ++ b) ++ left r next) bytes
-        ∙ ap (λ (k : ℕ). (varnum k ++ spelled_items r.tables (held r) ds) ++ left r next) (sym many);
+          st.spelled
+          ∙ ap (λ (b : List ℕ). varnum n ++ b) run.spelled
+          ∙ sym (append_assoc (varnum n) (spelled_fields r.tables (held r) (times n (item_type u holes)) ds) (left r next))
+          ∙ ap (λ (b : List ℕ). (varnum n ++ b) ++ left r next) bytes
+          ∙ ap (λ (k : ℕ). (varnum k ++ spelled_items r.tables (held r) ds) ++ left r next) (sym many);
       fits = rw (list_fits filled n (item_type u holes) ds st.enough run.fits, items_fit_times n u holes ds run.fits) refl;
       depth = run.depth;
       stands = run.stands;

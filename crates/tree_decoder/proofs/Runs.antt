@@ -62,16 +62,16 @@ run_more r ts t d w a b c vs v run f =
     let p = run.forward in let q = f.forward in
     record {
       goes_on = λ ds.
-        ap (λ es. outcome_from r es a) (dues_both ts (t ∷ []) d w ds)
-        ∙ run.goes_on (due t d w ∷ ds)
-        ∙ ap (behind (windows_in (data_of vs))) (f.goes_on ds)
-        ∙ behind_both (windows_in (data_of vs)) (windows_at (datum v)) (outcome_from r ds c)
-        ∙ ap (λ ws. behind ws (outcome_from r ds c)) (sym (windows_more vs v));
+          ap (λ es. outcome_from r es a) (dues_both ts (t ∷ []) d w ds)
+          ∙ run.goes_on (due t d w ∷ ds)
+          ∙ ap (behind (windows_in (data_of vs))) (f.goes_on ds)
+          ∙ behind_both (windows_in (data_of vs)) (windows_at (datum v)) (outcome_from r ds c)
+          ∙ ap (λ ws. behind ws (outcome_from r ds c)) (sym (windows_more vs v));
       spelled =
-        run.spelled
-        ∙ ap (λ x. spelled_fields r.tables (held r) ts (data_of vs) ++ x) f.spelled
-        ∙ sym (append_assoc (spelled_fields r.tables (held r) ts (data_of vs)) (framed t (spelled_at r.tables (held r) t (datum v))) (left r c))
-        ∙ ap (λ x. x ++ left r c) (sym (spelled_more r ts t vs v run.fits));
+          run.spelled
+          ∙ ap (λ x. spelled_fields r.tables (held r) ts (data_of vs) ++ x) f.spelled
+          ∙ sym (append_assoc (spelled_fields r.tables (held r) ts (data_of vs)) (framed t (spelled_at r.tables (held r) t (datum v))) (left r c))
+          ∙ ap (λ x. x ++ left r c) (sym (spelled_more r ts t vs v run.fits));
       fits = fit_more ts t vs v run.fits f.fits;
       depth = depth_more d vs v run.depth f.depth;
       stands = stand_more r vs v run.stands f.stands;

@@ -6,7 +6,9 @@ ghost use Rattle.tree_decoder.specs.Range.{range_of, IsSound};
 
 use crate::cursor::Input;
 use bast_base::{FormatFault, NameId, Steps, Why};
-use bast_schema::{EnumId, FieldType, Kind, Union, Value, allows, choice_of, is_counted, is_lazy, number_of};
+use bast_schema::{
+    EnumId, FieldType, Kind, Union, Value, allows, choice_of, is_counted, is_lazy, number_of,
+};
 use var_numbers::{read_varnum, whole_of};
 
 // The depth that no node passes.
@@ -143,7 +145,11 @@ fn flag<L>(input: &Input<'_, L>, at: u32, steps: &mut Steps<L>) -> Result<(Value
 }
 
 // A whole number.
-fn whole<L>(input: &Input<'_, L>, at: u32, steps: &mut Steps<L>) -> Result<(Value, u32), FormatFault>
+fn whole<L>(
+    input: &Input<'_, L>,
+    at: u32,
+    steps: &mut Steps<L>,
+) -> Result<(Value, u32), FormatFault>
     requires sound { IsSound (range_of input.now) }
     requires at { at ≤ input.now.end }
     ensures is { Gives result (whole_at (range_of input.now) at) }
@@ -203,7 +209,12 @@ fn numbered<L>(
 }
 
 // The name with a number, which has to be a text's.
-fn name<L>(input: &Input<'_, L>, at: u32, number: u32, next: u32) -> Result<(Value, u32), FormatFault>
+fn name<L>(
+    input: &Input<'_, L>,
+    at: u32,
+    number: u32,
+    next: u32,
+) -> Result<(Value, u32), FormatFault>
     ensures { Gives result (name_of at number next (slice_get input.now.strings.now number)) }
 {
     if number >= input.strings.len() {
@@ -216,7 +227,12 @@ fn name<L>(input: &Input<'_, L>, at: u32, number: u32, next: u32) -> Result<(Val
 }
 
 // The label with a number, or none where it is the absent string's.
-fn label<L>(input: &Input<'_, L>, at: u32, number: u32, next: u32) -> Result<(Value, u32), FormatFault>
+fn label<L>(
+    input: &Input<'_, L>,
+    at: u32,
+    number: u32,
+    next: u32,
+) -> Result<(Value, u32), FormatFault>
     ensures { Gives result (label_of at number next (slice_get input.now.strings.now number)) }
 {
     if number >= input.strings.len() {

@@ -1,39 +1,152 @@
 use crate::read_tree;
-use bast_base::{FormatFault, Halt, Plain, Steps, Tape, Why};
+use bast_base::{Chars, FormatFault, Halt, Plain, Steps, Tape, Why};
 use bast_schema::{Kind, KindTable, Node};
 use std::alloc::Global;
 use std::test::Fail;
 use string_table::{Entry, StringTable};
 
-fn bytes_of(alloc: Global, bytes: &[u8]) -> Result<Tape<Plain>, Fail> {
-    Ok(Tape::from_vec(Vec::from_slice(alloc, bytes)?))
-}
+// The kinds that the trees of these tests are spelled over, by their numbers.
+const KINDS: [Kind; 15] = [
+    Kind::Script,
+    Kind::AssertedScriptGlobalScope,
+    Kind::ExpressionStatement,
+    Kind::LiteralNumericExpression,
+    Kind::Directive,
+    Kind::Null,
+    Kind::LexicalDeclaration,
+    Kind::VariableDeclarator,
+    Kind::BindingIdentifier,
+    Kind::BreakStatement,
+    Kind::ReturnStatement,
+    Kind::LazyFunctionDeclaration,
+    Kind::UnaryExpression,
+    Kind::Block,
+    Kind::AssertedBlockScope,
+];
 
-fn kinds_of(alloc: Global, kinds: &[Kind]) -> Result<KindTable, Fail> {
+fn kinds_of(alloc: Global) -> Result<KindTable, Fail> {
     let mut table = KindTable::new(alloc);
-    for kind in kinds {
+    for kind in &KINDS {
         table.add(*kind)?;
     }
     Ok(table)
 }
 
+fn put_entry(table: &mut StringTable, entry: Entry) -> Result<(), Fail> {
+    if table.len() < 100 {
+        table.add(entry)?;
+    }
+    Ok(())
+}
+
+fn text(alloc: Global, text: &str) -> Result<Entry, Fail> {
+    Ok(Entry::Text(Chars::of(String::from_str(alloc, text)?)))
+}
+
+fn strings_of(alloc: Global) -> Result<StringTable, Fail> {
+    let mut table = StringTable::new(alloc);
+    put_entry(&mut table, text(alloc, "a")?)?;
+    put_entry(&mut table, Entry::Absent)?;
+    put_entry(&mut table, text(alloc, "let")?)?;
+    put_entry(&mut table, text(alloc, "!")?)?;
+    Ok(table)
+}
+
+// What is read of a tree's bytes, of which the first thousands count.
+fn read(alloc: Global, tree: &[u8]) -> Result<Result<Node, Halt>, Fail> {
+    let tape: Tape<Plain> = Tape::from_vec(Vec::from_slice(alloc, &tree[..tree.len().min(4000)])?);
+    let kinds = kinds_of(alloc)?;
+    let strings = strings_of(alloc)?;
+    let mut steps = Steps::start();
+    let end = tape.len();
+    Ok(read_tree(alloc, &tape, &kinds, &strings, 0, end, &mut steps))
+}
+
+// Whether that is the fault of a tree's bytes.
+fn has_fault(alloc: Global, tree: &[u8], at: u32, why: Why) -> Result<bool, Fail> {
+    Ok(match read(alloc, tree)? {
+        Ok(_) => false,
+        Err(Halt::Memory) => false,
+        Err(Halt::Format(fault)) => fault == FormatFault { at, why },
+    })
+}
+
+// `1;` over its four kinds
 #[test]
 fn a_script_is_read(rt: HostRuntime) -> Result<(), Fail> {
     let alloc = rt.alloc();
-    let kinds = kinds_of(
+    let script = read(
         alloc,
-        &[
-            Kind::Script,
-            Kind::AssertedScriptGlobalScope,
-            Kind::ExpressionStatement,
-            Kind::LiteralNumericExpression,
-        ],
-    )?;
-    let strings = StringTable::new(alloc);
-    let tape = bytes_of(alloc, &[0, 0, 2, 0, 0, 2, 4, 6, 0x3F, 0xF0, 0, 0, 0, 0, 0, 0])?;
-    let mut steps = Steps::start();
-    let script = read_tree(alloc, &tape, &kinds, &strings, 0, 16, &mut steps)?;
+        &[0, 0, 2, 0, 0, 2, 4, 6, 0x3F, 0xF0, 0, 0, 0, 0, 0, 0],
+    )??;
     assert_eq!(rt; script.depth(), 3);
     assert!(rt; script.kind() == Kind::Script);
+    Ok(())
+}
+
+#[test]
+fn the_first_fault_is_told(rt: HostRuntime) -> Result<(), Fail> {
+    let alloc = rt.alloc();
+    let rows: [(&[u8], u32, Why); 19] = [
+        (&[], 0, Why::Ended),
+        (&[1, 0], 1, Why::Overlong),
+        (&[1, 1, 1, 1, 0x20], 4, Why::TooBig),
+        // no such kind, and another kind
+        (&[30], 0, Why::BadKind),
+        (&[26], 0, Why::BadKind),
+        // a directive among the statements, and no node where one is due
+        (&[0, 0, 2, 0, 0, 2, 8, 0], 6, Why::BadKind),
+        (&[0, 0, 2, 0, 0, 2, 4, 10], 7, Why::BadKind),
+        (&[0, 0, 2, 0], 4, Why::Ended),
+        (&[0, 0, 2, 0, 2], 4, Why::BadBool),
+        // a directive with the absent string, and with none
+        (&[0, 2, 8, 2], 3, Why::BadString),
+        (&[0, 2, 8, 8], 3, Why::BadString),
+        // a number of three bytes, and one and a half
+        (&[0, 0, 2, 0, 0, 2, 4, 6, 0x3F, 0xF0, 0], 11, Why::Ended),
+        (
+            &[0, 0, 2, 0, 0, 2, 4, 6, 0x3F, 0xF8, 0, 0, 0, 0, 0, 0],
+            8,
+            Why::BadWhole,
+        ),
+        // a label and a choice without a text
+        (&[0, 0, 2, 0, 0, 2, 18, 8], 7, Why::BadString),
+        (&[0, 0, 2, 0, 0, 2, 12, 2, 0], 7, Why::BadString),
+        // `!` as the word of a declaration, and a declaration of nothing
+        (&[0, 0, 2, 0, 0, 2, 12, 6, 0], 7, Why::BadVariant),
+        (&[0, 0, 2, 0, 0, 2, 12, 4, 0], 8, Why::EmptyList),
+        // a window of three bytes where two are left, and a byte behind one of two
+        (&[0, 0, 2, 0, 0, 2, 22, 16, 0, 0, 6, 9, 9], 13, Why::Ended),
+        (
+            &[0, 0, 2, 0, 0, 2, 22, 16, 0, 0, 4, 9, 9, 9],
+            13,
+            Why::Trailing,
+        ),
+    ];
+    for (tree, at, why) in &rows {
+        assert!(rt; has_fault(alloc, tree, *at, *why)?);
+    }
+    Ok(())
+}
+
+// The bytes of that many `!` before a number.
+fn deep(alloc: Global, depth: u32) -> Result<Vec<u8>, Fail> {
+    let mut tree = Vec::from_slice(alloc, &[0, 0, 2, 0, 0, 2, 4])?;
+    for _ in 0..depth {
+        tree.push(24)?;
+        tree.push(6)?;
+    }
+    for byte in &[6, 0x3F, 0xF0, 0, 0, 0, 0, 0, 0] {
+        tree.push(*byte)?;
+    }
+    Ok(tree)
+}
+
+#[test]
+fn no_node_is_too_deep(rt: HostRuntime) -> Result<(), Fail> {
+    let alloc = rt.alloc();
+    let script = read(alloc, &deep(alloc, 509)?)??;
+    assert_eq!(rt; script.depth(), 512);
+    assert!(rt; has_fault(alloc, &deep(alloc, 510)?, 1027, Why::TooDeep)?);
     Ok(())
 }
