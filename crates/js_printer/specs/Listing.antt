@@ -7,7 +7,7 @@ use Rattle.bast_schema.specs.Choices.{choice_texts}
 use Rattle.bast_schema.specs.Fields.{fields, field_names}
 use Rattle.bast_schema.specs.Kinds.{kind_name}
 use Rattle.bast_schema.specs.Tree.{Tree, branch, Datum, child, absent, listed as list_of, flag, index, whole, name, no_name, choice, Data, none, more, count}
-use Rattle.js_printer.specs.Names.{text_of}
+use Rattle.js_printer.specs.Names.{name_text}
 use Rattle.js_printer.specs.StringForm.{string_form}
 
 -- a line: the depth at which it stands, and its text
@@ -22,6 +22,7 @@ line d text = record { depth = d; text = text }
 abbrev pub indent : ℕ → List ℕ
 indent d = replicate (2 * min d 16) 32
 
+-- a line as it stands in the listing
 abbrev pub shown : Line → List ℕ
 shown l = indent l.depth ++ l.text ++ codes "\n"
 
@@ -39,7 +40,7 @@ abbrev pub value_text : List (Option (List ℕ)) → FieldType → Datum → Lis
 value_text texts t (flag b) = if b then codes "true" else codes "false"
 value_text texts t (index n) = decimal n
 value_text texts t (whole n) = decimal n
-value_text texts t (name n) = string_form (text_of texts n)
+value_text texts t (name n) = string_form (name_text texts n)
 value_text texts t no_name = codes "none"
 value_text texts t (choice n) = string_form (chosen t n)
 value_text texts t _ = []

@@ -4,8 +4,8 @@ use Rattle.std.specs.Option.{unwrap_or}
 use Rattle.bast_schema.specs.Tree.{Tree, branch, Datum, child, listed, name, Data, none, more}
 
 -- the text of a name
-abbrev pub text_of : List (Option (List ℕ)) → ℕ → List ℕ
-text_of texts n = unwrap_or (get_or texts n None) []
+abbrev pub name_text : List (Option (List ℕ)) → ℕ → List ℕ
+name_text texts n = unwrap_or (get_or texts n None) []
 
 -- whether each name in a tree is a text of the table
 abbrev mutual

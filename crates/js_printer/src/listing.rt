@@ -1,10 +1,10 @@
-ghost use Rattle.std.specs.Prelude.{◌≡◌, ◌++◌, ◌∷◌, [], true, codes, decimal, get_or, is_some, string_bytes, None, Some, IfOk, OnOk};
+ghost use Rattle.std.specs.Prelude.{◌≡◌, ◌++◌, ◌∷◌, [], true, codes, decimal, get_or, is_some, string_bytes, None, Some, IfOk, IsTrue, OnOk};
 ghost use Rattle.bast_schema.specs.Counts.{is_whole, is_whole_at, is_whole_in};
 ghost use Rattle.bast_schema.specs.Fields.{fields, field_names};
 ghost use Rattle.bast_schema.specs.Tree.{choice as choice_of, fit, fits};
 ghost use Rattle.bast_schema.specs.View.{datum, data_of};
 ghost use Rattle.js_printer.specs.Listing.{chosen, field_lines, fields_lines, indent, item_lines, items_lines, line, listed, node_lines, shown_all};
-ghost use Rattle.js_printer.specs.Names.{is_named, is_named_at, is_named_in, text_of};
+ghost use Rattle.js_printer.specs.Names.{is_named, is_named_at, is_named_in, name_text};
 ghost use Rattle.js_printer.specs.StringForm.{string_form};
 
 use crate::strings::put_string_form;
@@ -22,10 +22,10 @@ const INDENT_LIMIT: u32 = 16;
 /// A node's line is its kind, and its fields stand one deeper. A field that is a node is `field: Kind`, an absent one
 /// `field: none`, a list `field: [count]` with its items one deeper, where a hole is `none`. Any other field is
 /// `field = value`, where the value is `true`, `false`, a decimal number, `none` for an absent label, or the string form
-/// of a text. It takes time and memory in proportion to the listing.
+/// of a text. It takes time and memory in proportion to the listing, and an error comes only where memory runs out.
 pub fn list_tree(alloc: Global, tree: &Node, strings: &StringTable) -> Result<String, Memory>
-    requires whole { is_whole tree.now ≡ true }
-    requires names { is_named strings.now tree.now ≡ true }
+    requires whole { IsTrue (is_whole tree.now) }
+    requires names { IsTrue (is_named strings.now tree.now) }
     ensures { IfOk result (λ text. string_bytes text ≡ listed strings.now tree.now) }
 {
     let mut text = String::new(alloc);
@@ -195,7 +195,7 @@ fn put_indent(depth: u32, into: &mut String) -> Result<(), Memory>
 // The text of a name that has one.
 fn text_of(name: NameId, strings: &StringTable) -> &str
     requires { is_some (get_or strings.now name.0 None) ≡ true }
-    ensures { result.now ≡ text_of strings.now name.0 }
+    ensures { result.now ≡ name_text strings.now name.0 }
 {
     match strings.text(name) {
         Some(text) => text,

@@ -8,7 +8,8 @@ use std::alloc::Global;
 
 /// The string form of a text: a string literal in double quotes (ECMA-262, section 11.8.4) whose value is the text.
 ///
-/// The quote, the backslash and the line terminators of section 11.3 are escaped, and every other character stands as it is.
+/// The quote, the backslash and the line terminators of section 11.3 are escaped, and every other character stands as it
+/// is. An error comes only where memory runs out.
 pub fn string_form(alloc: Global, text: &str) -> Result<String, Memory>
     ensures { IfOk result (λ form. string_bytes form ≡ string_form text.now) }
 {
