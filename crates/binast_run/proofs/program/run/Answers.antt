@@ -1,0 +1,12 @@
+use Rattle.std.proofs.Common.{List, ℕ, sym, subst}
+use Rattle.binast_run.specs.Output.{AppendsFront}
+use Rattle.binast_run.proofs.Outputs.{outputs_front}
+use Rattle.binast_run.proofs.program.run.Goals as goal
+
+pub returns-clause-write_fault : goal.returns-clause-write_fault
+returns-clause-write_fault g c = λ _.
+    let front = subst (λ (x : List ℕ). AppendsFront (g.K.Sink.written c.args.sink.now) (g.K.Sink.written c.write_all-in-Ok-Output.new.sink) x) c.deref-in-Ok-Output.ensures.value c.write_all-in-Ok-Output.ensures.front
+    in (
+      outputs_front c.args.words.now (g.S.Source.left c.args.source.now) (g.S.Source.left c.read_from.new.source) (g.K.Sink.written c.args.sink.now) (g.K.Sink.written c.write_all-in-Ok-Output.new.sink) c.in-Ok.tape c.in-Ok-Output.bytes.items c.in-Some.command (sym c.in-Some.ensures) c.in-Ok.ensures.whole c.in-Ok.ensures.within c.in-Ok-Output.ensures.answer front,
+      c.in-Err-write_all.ensures.cause.failed,
+    )
