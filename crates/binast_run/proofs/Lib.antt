@@ -1,8 +1,11 @@
 pub mod DigitLemmas
+pub mod FileAnswers
 pub mod FirstKinds
 pub mod FirstWhole
+pub mod NamedTrees
 pub mod NodesSpelled
 pub mod OutputLemmas
 pub mod Outputs
+pub mod ReadFile
 pub mod SourceFile
 pub mod Used

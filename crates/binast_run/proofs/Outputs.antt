@@ -14,9 +14,12 @@ pub outputs_front : (words : List (List ℕ)) (left left' old new : Option (List
     → command_in words ≡ Some c → TakesAll left left' tape → length tape ≤ 8388608 → AnswersInput c tape (output text) → AppendsFront old new text
     → OutputsFront words left left' old new
 outputs_front words None left' old new tape text c is takes small answer front = tt
-outputs_front words (Some input) left' old new tape text c is takes small answer front =
-    (text, record {
-      answer = answers_words (command_in words) c input (output text) is (subst (λ (x : List ℕ). AnswersInput c x (output text)) takes.0 answer);
-      all = takes.1;
-      within = subst (λ (x : List ℕ). length x ≤ 8388608) takes.0 small;
-    }, front)
+outputs_front words (Some input) left' old new tape text c is takes small answer front = (
+  text,
+  record {
+    answer = answers_words (command_in words) c input (output text) is (subst (λ (x : List ℕ). AnswersInput c x (output text)) takes.0 answer);
+    all = takes.1;
+    within = subst (λ (x : List ℕ). length x ≤ 8388608) takes.0 small;
+  },
+  front,
+)

@@ -1,7 +1,10 @@
 -- What a file comes to: its tree, or its first fault.
 use Rattle.std.specs.Prelude.{◌≡◌, ℕ, List, Option, Some, None, Result, Ok, Err}
 use Rattle.bast_base.specs.declared.errors.FormatFault.{FormatFault}
+use Rattle.bast_base.specs.declared.errors.Halt.{Halt}
+use Rattle.bast_base.specs.declared.errors.Halt.TheVariants.{Memory, Format}
 use Rattle.bast_schema.specs.Tree.{Tree}
+use Rattle.binast_run.specs.declared.files.File.{File}
 use Rattle.container.specs.declared.layout.Layout.{Layout}
 use Rattle.container.specs.IsContainer.{tables}
 use Rattle.container.specs.Layout.{layout_of}
@@ -28,3 +31,9 @@ first_fault bytes = fault_in bytes (layout_of bytes)
 pub record IsFileOfScript (bytes : List ℕ) (l : Layout) (t : Tree) : Type 0 where
   pub container : layout_of bytes ≡ Ok l
   pub script : IsScript (tree_range bytes l) l.from t
+
+-- unless memory runs out, a file is read as its script, or refused with its first fault
+abbrev pub ReadsFile : List ℕ → Result File Halt → Type 0
+ReadsFile bytes (Ok f) = IsFileOfScript bytes f.layout f.tree
+ReadsFile bytes (Err Memory) = Unit {0}
+ReadsFile bytes (Err (Format e)) = first_fault bytes ≡ Some e

@@ -3,6 +3,7 @@
 
 mod command;
 mod encode;
+mod files;
 mod first_kinds;
 mod first_source;
 mod gate;

@@ -5,6 +5,7 @@ ghost use Rattle.binast_run.specs.Result.{answer_to, looked_by, AnswersInput};
 
 use crate::command::Command;
 use crate::encode::encode;
+use crate::files::{check, decode};
 use crate::first_source::first_source_of;
 use crate::source_tree::source_tree_of;
 use bast_base::{Memory, Steps, Tape};
@@ -33,8 +34,8 @@ pub(crate) fn outcome_of<L>(
             let text = text_of(alloc, tape, steps)?;
             encode_eager(alloc, &text)
         }
-        Command::Decode => Err(Memory),
-        Command::Check => Err(Memory),
+        Command::Decode => decode(alloc, tape, steps),
+        Command::Check => check(alloc, tape, steps),
     }
 }
 

@@ -1,0 +1,117 @@
+// The commands that read a file.
+ghost use Rattle.std.specs.Prelude.{◌≡◌, ◌≤◌, ◌+◌, ◌<◌, ◌^◌, length, sum, IsTrue, IfOk, string_bytes};
+ghost use Rattle.bast_schema.specs.Tree.{nodes, typed};
+ghost use Rattle.js_printer.specs.Names.{is_named};
+ghost use Rattle.binast_run.specs.Outcome.{answer_in};
+ghost use Rattle.binast_run.specs.Reading.{ReadsFile};
+ghost use Rattle.binast_run.specs.Result.{output, refusal, AnswersInput};
+ghost use Rattle.binast_run.specs.declared.command.Command.TheVariants.{Check, Decode};
+
+use crate::first_kinds::first_other_of;
+use crate::lines::{accepted_line, fault_line, not_yet_line};
+use crate::outcome::Outcome;
+use bast_base::{Halt, Memory, Steps, Tape};
+use bast_schema::Node;
+use container::{Layout, read_layout};
+use js_printer::list_tree;
+use std::alloc::Global;
+use tree_decoder::read_tree;
+
+// What was read of a file: its container, and its tree.
+#[derive(Drop)]
+struct File {
+    layout: Layout,
+    tree: Node,
+}
+
+// The listing of a file's tree.
+pub(crate) fn decode<L>(
+    alloc: Global,
+    tape: &Tape<L>,
+    steps: &mut [Steps<L>],
+) -> Result<Outcome, Memory>
+    requires { 0 < length steps.old }
+    ensures answer { IfOk result (λ outcome. AnswersInput Decode tape.now (answer_in outcome)) }
+    ensures cost { sum steps.new ≤ sum steps.old + length tape.now }
+{
+    match file_of(alloc, tape, steps) {
+        Err(Halt::Memory) => Err(Memory),
+        Err(Halt::Format(fault)) => Ok(refused(fault_line(alloc, fault)?)),
+        Ok(file) => match first_other_of(&file.tree) {
+            Some(node) => Ok(refused(not_yet_line(alloc, node)?)),
+            None => Ok(answered(list_tree(alloc, &file.tree, &file.layout.strings)?)),
+        },
+    }
+}
+
+// Whether a file is accepted.
+pub(crate) fn check<L>(
+    alloc: Global,
+    tape: &Tape<L>,
+    steps: &mut [Steps<L>],
+) -> Result<Outcome, Memory>
+    requires { 0 < length steps.old }
+    ensures answer { IfOk result (λ outcome. AnswersInput Check tape.now (answer_in outcome)) }
+    ensures cost { sum steps.new ≤ sum steps.old + length tape.now }
+{
+    match file_of(alloc, tape, steps) {
+        Err(Halt::Memory) => Err(Memory),
+        Err(Halt::Format(fault)) => Ok(refused(fault_line(alloc, fault)?)),
+        Ok(file) => match first_other_of(&file.tree) {
+            Some(node) => Ok(refused(not_yet_line(alloc, node)?)),
+            None => Ok(answered(accepted_line(alloc, tape.len())?)),
+        },
+    }
+}
+
+fn refused(line: String) -> Outcome
+    ensures { answer_in result ≡ refusal (string_bytes line) }
+{
+    Outcome::Refusal(line.into_bytes())
+}
+
+fn answered(text: String) -> Outcome
+    ensures { answer_in result ≡ output (string_bytes text) }
+{
+    Outcome::Output(text.into_bytes())
+}
+
+// Reads a file against the first counter.
+fn file_of<L>(alloc: Global, tape: &Tape<L>, steps: &mut [Steps<L>]) -> Result<File, Halt>
+    requires { 0 < length steps.old }
+    ensures reads { ReadsFile tape.now result }
+    ensures typed { IfOk result (λ file. IsTrue (typed file.tree)) }
+    ensures named { IfOk result (λ file. IsTrue (is_named file.layout.strings file.tree)) }
+    ensures nodes { IfOk result (λ file. nodes file.tree < 2 ^ 32) }
+    ensures cost { sum steps.new ≤ sum steps.old + length tape.now }
+{
+    read_file(alloc, tape, &mut steps[0])
+}
+
+// Reads the container of a file, and then its tree.
+fn read_file<L>(alloc: Global, tape: &Tape<L>, steps: &mut Steps<L>) -> Result<File, Halt>
+    ensures reads { ReadsFile tape.now result }
+    ensures typed { IfOk result (λ file. IsTrue (typed file.tree)) }
+    ensures named { IfOk result (λ file. IsTrue (is_named file.layout.strings file.tree)) }
+    ensures nodes { IfOk result (λ file. nodes file.tree < 2 ^ 32) }
+    ensures cost { steps.new ≤ steps.old + length tape.now }
+{
+    // A tape is told to be short by its length.
+    let _bytes = tape.len();
+    let layout = match read_layout(alloc, tape, steps) {
+        Ok(layout) => layout,
+        Err(halt) => return Err(halt),
+    };
+    match read_tree(
+        alloc,
+        tape,
+        &layout.kinds,
+        &layout.strings,
+        layout.from,
+        layout.to,
+        steps,
+    ) {
+        Ok(tree) => Ok(File { layout, tree }),
+        Err(halt) => Err(halt),
+    }
+}
