@@ -1,3 +1,4 @@
+pub mod Accepts
 pub mod Machine
 pub mod Moves
 pub mod Nodes

@@ -4,4 +4,5 @@ pub mod Numbers
 pub mod Outcome
 pub mod Range
 pub mod Script
+pub mod Spelt
 pub mod Windows
