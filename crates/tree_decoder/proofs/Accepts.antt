@@ -140,10 +140,6 @@ name_again : (at n next : ℕ) (o : Option (Option (List ℕ))) (entry : Option 
 name_again at n next o (Some t) e some = rw e refl
 name_again at n next o None e some = cc
 
-
-
-
-
 label_again : (at n next : ℕ) (o : Option (Option (List ℕ))) (entry : Option (List ℕ)) → o ≡ Some entry → (v : Datum) × (label_of at n next o ≡ is_ok (v, next))
 label_again at n next o (Some t) e = (name n, rw e refl)
 label_again at n next o None e = (no_name, rw e refl)
