@@ -85,7 +85,7 @@ any_first : {A : Type 0} (p : A → Bool) (i : ℕ) (xs : List A) (b : Bool) →
 any_first p i xs true e rest = (i, refl)
 any_first p i xs false e rest = rest e
 
-any_place : {A : Type 0} (p : A → Bool) (i : ℕ) (xs : List A) → list_any p xs ≡ true → (n : ℕ) × (position_from p i xs ≡ Some n)
+pub any_place : {A : Type 0} (p : A → Bool) (i : ℕ) (xs : List A) → list_any p xs ≡ true → (n : ℕ) × (position_from p i xs ≡ Some n)
 any_place p i [] e = absurd cc
 any_place p i (x ∷ xs) e = any_first p i xs (p x) e (any_place p (i + 1) xs)
 
@@ -116,16 +116,16 @@ has_text r entry sound e =
     let few : length r.tables.texts < 2 ^ 32 = sound.few in
     record { there = ap (slice_get r.tables.texts) (sym same) ∙ at; small = omega arith }
 
-first_atom : (s : Tables) (a : Atom) (xs : List Atom) → list_all (has_atom s) (a ∷ xs) ≡ true → has_atom s a ≡ true
+pub first_atom : (s : Tables) (a : Atom) (xs : List Atom) → list_all (has_atom s) (a ∷ xs) ≡ true → has_atom s a ≡ true
 first_atom s a xs e = and_first (has_atom s a) (list_all (has_atom s) xs) e
 
-other_atoms : (s : Tables) (a : Atom) (xs : List Atom) → list_all (has_atom s) (a ∷ xs) ≡ true → list_all (has_atom s) xs ≡ true
+pub other_atoms : (s : Tables) (a : Atom) (xs : List Atom) → list_all (has_atom s) (a ∷ xs) ≡ true → list_all (has_atom s) xs ≡ true
 other_atoms s a xs e = and_second (has_atom s a) (list_all (has_atom s) xs) e
 
-front_atoms : (s : Tables) (xs ys : List Atom) → list_all (has_atom s) (xs ++ ys) ≡ true → list_all (has_atom s) xs ≡ true
+pub front_atoms : (s : Tables) (xs ys : List Atom) → list_all (has_atom s) (xs ++ ys) ≡ true → list_all (has_atom s) xs ≡ true
 front_atoms s xs ys e = and_first (list_all (has_atom s) xs) (list_all (has_atom s) ys) (sym (list_all-append (has_atom s) xs ys) ∙ e)
 
-back_atoms : (s : Tables) (xs ys : List Atom) → list_all (has_atom s) (xs ++ ys) ≡ true → list_all (has_atom s) ys ≡ true
+pub back_atoms : (s : Tables) (xs ys : List Atom) → list_all (has_atom s) (xs ++ ys) ≡ true → list_all (has_atom s) ys ≡ true
 back_atoms s xs ys e = and_second (list_all (has_atom s) xs) (list_all (has_atom s) ys) (sym (list_all-append (has_atom s) xs ys) ∙ e)
 
 -- ---- values with no parts
@@ -159,7 +159,7 @@ choice_again : (set : EnumId) (at next c : ℕ) (o : Option (Option (List ℕ)))
 choice_again set at next c o bytes e found = ap (choice_at set at next) e ∙ ap (variant_of at next) found
 
 -- the text of a choice
-choice_text_of : (set : EnumId) (c : ℕ) → c < length (choice_texts set) → choice_of_text set (get_or (choice_texts set) c []) ≡ Some c
+pub choice_text_of : (set : EnumId) (c : ℕ) → c < length (choice_texts set) → choice_of_text set (get_or (choice_texts set) c []) ≡ Some c
 choice_text_of set c lt = choice_of_its_text set c (get_or (choice_texts set) c []) (slice_get-get_or (choice_texts set) c [] lt)
 
 choice_goes : (r : Range) (set : EnumId) (d : ℕ) (w : Bool) (at c : ℕ) (rest : List ℕ) (ds : List Due) → IsSound r → at ≤ r.end → c < length (choice_texts set) → HasText r (chosen (field.Choice set) c) → left r at ≡ varnum (text_place r.tables (chosen (field.Choice set) c)) ++ rest → fault_from r (due (field.Choice set) d w ∷ ds) at ≡ fault_from r ds (at + length (varnum (text_place r.tables (chosen (field.Choice set) c))))
@@ -200,7 +200,7 @@ flag_goes r d w at b rest ds sound order e =
     let f = flag_again r at (cond b 1 0) rest sound order e in
     leaf_goes r field.Bool d w at (at + 1) (flag b) ds sound order refl (flag_is r at b f.0 f.1)
 
-pattern_small : (n : ℕ) → n < 2 ^ 53 → pattern n < 2 ^ 64
+pub pattern_small : (n : ℕ) → n < 2 ^ 53 → pattern n < 2 ^ 64
 pattern_small zero lt = rw pattern-zero (omega arith)
 pattern_small (suc n) lt =
     let p = parts_of (suc n) (omega arith) lt in
@@ -259,12 +259,12 @@ shallow_of : (b : Bool) (x d : ℕ) → cond b 1 0 + x + d ≤ 513 → ((b && lt
 shallow_of true x d h = (le-ltb _ _ (omega arith), omega arith)
 shallow_of false x d h = (refl, omega arith)
 
-enough_of : (filled : Bool) (vs : Data) → (not filled || not (is_none vs)) ≡ true → (filled && eqb (count vs) 0) ≡ false
+pub enough_of : (filled : Bool) (vs : Data) → (not filled || not (is_none vs)) ≡ true → (filled && eqb (count vs) 0) ≡ false
 enough_of false vs e = refl
 enough_of true none e = cc
 enough_of true (more v vs) e = grind arith
 
-not_lazy : (w b c : Bool) → (w ≡ true → (not b && c) ≡ true) → (w && b) ≡ false
+pub not_lazy : (w b c : Bool) → (w ≡ true → (not b && c) ≡ true) → (w && b) ≡ false
 not_lazy false b c eager = refl
 not_lazy true true c eager = let h = eager refl in cc
 not_lazy true false c eager = refl
@@ -298,7 +298,7 @@ items_long s h u holes (more d ds) e =
     let both : length (spelled_at s h (field.Optional Body) d ++ spelled_items s h ds) ≡ length (spelled_at s h (field.Optional Body) d) + length (spelled_items s h ds) = length-append (spelled_at s h (field.Optional Body) d) (spelled_items s h ds) in
     omega arith
 
-item_atoms : (h : Held) (u : Union) (holes : Bool) (d : Datum) → fits (item_type u holes) d ≡ true → atoms_of h (field.Optional Body) d ≡ atoms_of h (item_type u holes) d
+pub item_atoms : (h : Held) (u : Union) (holes : Bool) (d : Datum) → fits (item_type u holes) d ≡ true → atoms_of h (field.Optional Body) d ≡ atoms_of h (item_type u holes) d
 item_atoms h u holes (child t) e = refl
 item_atoms h u holes absent e = refl
 item_atoms h u holes (listed ds) e = refl

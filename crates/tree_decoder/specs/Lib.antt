@@ -1,6 +1,8 @@
 pub mod Dues
 pub mod Found
+pub mod Left
 pub mod Numbers
+pub mod OneTree
 pub mod Outcome
 pub mod Range
 pub mod Script
