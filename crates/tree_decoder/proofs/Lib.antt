@@ -1,6 +1,9 @@
+pub mod Accepts
+pub mod Dues
 pub mod Machine
 pub mod Moves
 pub mod Nodes
+pub mod OneTree
 pub mod Runs
 pub mod Scripts
 pub mod Single

@@ -118,7 +118,7 @@ pub kind_atom : (r : Range) (u : Union) (optional : Bool) (d : ℕ) (w : Bool) (
 kind_atom r u true d w at q e = ap (λ p. p >>= λ k. is_ok (taken (children k.0 d w) [] k.1)) e
 kind_atom r u false d w at q e = ap (λ p. p >>= λ k. is_ok (taken (children k.0 d w) [] k.1)) e
 
-framed_item : (u : Union) (holes : Bool) (bytes : List ℕ) → framed (item_type u holes) bytes ≡ bytes
+pub framed_item : (u : Union) (holes : Bool) (bytes : List ℕ) → framed (item_type u holes) bytes ≡ bytes
 framed_item u true bytes = refl
 framed_item u false bytes = refl
 
@@ -234,7 +234,7 @@ items_spend r u holes filled d w at n m old mid new sound order e s f = λ ds.
     (spent_on (outcome_from r (dues (times n (item_type u holes)) d w ++ ds) m).windows at m r.end old mid new (omega arith) mv.within s (f ds))
 
 -- items are spelled as nodes that may be absent
-item_spelled : (s : Tables) (h : Held) (u : Union) (holes : Bool) (d : Datum) → fits (item_type u holes) d ≡ true → spelled_at s h (item_type u holes) d ≡ spelled_at s h (field.Optional Body) d
+pub item_spelled : (s : Tables) (h : Held) (u : Union) (holes : Bool) (d : Datum) → fits (item_type u holes) d ≡ true → spelled_at s h (item_type u holes) d ≡ spelled_at s h (field.Optional Body) d
 item_spelled s h u holes (child t) e = refl
 item_spelled s h u holes absent e = refl
 item_spelled s h u holes (listed ds) e = refl

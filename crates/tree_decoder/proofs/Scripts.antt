@@ -1,20 +1,26 @@
 -- A script is read from all of the bytes.
-use Rattle.std.proofs.Common.{ℕ, zero, suc, ◌+◌, ◌-◌, ◌<◌, ◌≤◌, ◌≡◌, Bool, true, false, List, [], ◌∷◌, ◌++◌, length, take, drop, Option, Some, None, refl, sym, ap, subst, ◌∙◌, arith, append-nil}
+use Rattle.std.proofs.Common.{ℕ, zero, suc, ◌+◌, ◌-◌, ◌<◌, ◌≤◌, ◌≡◌, Bool, true, false, List, [], ◌∷◌, ◌++◌, length, take, drop, Option, Some, None, Result, Ok, Err, ◌&&◌, refl, sym, ap, subst, ◌∙◌, arith, append-nil}
+use Rattle.bast_base.specs.declared.errors.Halt.{Halt}
+use Rattle.bast_base.specs.declared.errors.Halt.TheVariants.{Memory, Format}
 use Rattle.bast_base.specs.declared.errors.Why.TheVariants.{Trailing}
 use Rattle.bast_schema.specs.declared.kind.Kind.TheVariants.{Script}
 use Rattle.bast_schema.specs.declared.kind.Union.TheVariants.{One}
+use Rattle.bast_schema.specs.Held.{Held}
 use Rattle.bast_schema.specs.Tree.{Tree, Datum, child, depth, typed, kind_of}
 use Rattle.bast_schema.specs.Unions.{allowed}
 use Rattle.bast_schema.proofs.Both.{and_first, and_second}
 use Rattle.bast_schema.proofs.Typed.{allowed_one}
 use Rattle.container.specs.Spelled.{spelled}
 use Rattle.tree_decoder.specs.Dues.{due}
-use Rattle.tree_decoder.specs.Found.{Found, Spent}
+use Rattle.tree_decoder.specs.Found.{Found, Fails, Spent}
 use Rattle.tree_decoder.specs.Numbers.{fault}
 use Rattle.tree_decoder.specs.Outcome.{Outcome, ends, behind, outcome_from}
 use Rattle.tree_decoder.specs.Range.{Range, IsSound, held, left}
-use Rattle.tree_decoder.specs.Script.{IsScript, script, script_outcome}
+use Rattle.tree_decoder.specs.Script.{IsScript, ReadsScript, script, script_outcome}
+use Rattle.tree_decoder.specs.Spelt.{IsSpelt, NoFault}
 use Rattle.tree_decoder.specs.Windows.{windows, windows_at, skipped}
+use Rattle.tree_decoder.proofs.Accepts.{accept_tree}
+use Rattle.tree_decoder.proofs.Spells.{left_length}
 use Rattle.tree_decoder.proofs.Machine.{trailing, all_read, skipped_both, skips_within}
 
 none_left : (r : Range) (next : ℕ) → r.end ≤ next → left r next ≡ []
@@ -45,3 +51,22 @@ script_spends r at v next old new sound f s =
     let ahead : at < next = f.forward in
     let within : next ≤ r.end = f.within in
     subst (λ (o : Outcome). Spent o.windows at r.end old new) (sym (f.goes_on [])) (let all : Spent (windows_at v ++ rest.windows) at r.end old new = omega arith in all)
+
+-- the bytes of a script are read with no fault
+pub script_accepted : (r : Range) (at : ℕ) (h : Held) (t : Tree) → IsSound r → at ≤ r.end → IsSpelt r at h t → (script_outcome r at).fault ≡ None
+script_accepted r at h t sound order is =
+    let shallow : depth t ≤ 512 = is.shallow in
+    let whole : left r at ≡ spelled r.tables h t ++ [] = is.spelled ∙ sym (append-nil (spelled r.tables h t)) in
+    let long : r.end - at ≡ length (spelled r.tables h t) = sym (left_length r at sound order) ∙ ap length is.spelled in
+    let ok : (allowed (One Script) (kind_of t) && typed t) ≡ true = rw (is.kind, is.typed) refl in
+    accept_tree r h sound t (One Script) false 1 false at [] order ok is.has_all is.named (λ yes. absurd cc) (omega arith) whole []
+    ∙ ap (λ (o : Outcome). o.fault) (all_read r (at + length (spelled r.tables h t)) (omega arith))
+
+pub only_memory : (r : Range) (at : ℕ) (q : Result Tree Halt) → IsSound r → at ≤ r.end → ReadsScript r at q → (h : Held) (t : Tree) → IsSpelt r at h t → NoFault q
+only_memory r at (Ok u) sound order reads h t is = tt
+only_memory r at (Err Memory) sound order reads h t is = tt
+only_memory r at (Err (Format f)) sound order reads h t is = let e : Some f ≡ None = sym reads ∙ script_accepted r at h t sound order is in absurd cc
+
+pub only_failed : (r : Range) (at : ℕ) (e : Halt) → IsSound r → at ≤ r.end → Fails r (due script 1 false ∷ []) at e → (h : Held) (t : Tree) → IsSpelt r at h t → NoFault (Err e)
+only_failed r at Memory sound order fails h t is = tt
+only_failed r at (Format f) sound order fails h t is = only_memory r at (Err (Format f)) sound order (fails []) h t is

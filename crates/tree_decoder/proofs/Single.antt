@@ -138,7 +138,7 @@ by_number r t at x sound order e =
 
 -- ---- by bytes
 
-first_byte : (r : Range) (at : ℕ) → IsSound r → at < r.end → left r at ≡ slice_index r.tape at ∷ left r (at + 1)
+pub first_byte : (r : Range) (at : ℕ) → IsSound r → at < r.end → left r at ≡ slice_index r.tape at ∷ left r (at + 1)
 first_byte r at sound within =
     let there : r.end ≤ length r.tape = sound.within in
     let some : r.end - at ≡ suc (r.end - (at + 1)) = omega arith in

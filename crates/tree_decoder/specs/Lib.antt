@@ -1,7 +1,10 @@
 pub mod Dues
 pub mod Found
+pub mod Left
 pub mod Numbers
+pub mod OneTree
 pub mod Outcome
 pub mod Range
 pub mod Script
+pub mod Spelt
 pub mod Windows

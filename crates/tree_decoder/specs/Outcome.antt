@@ -37,3 +37,7 @@ go r (suc n) (x ∷ ds) at = after (go r n) ds (atom_at r x at)
 -- each atom has a byte or more, so there are no more atoms than bytes
 unfoldable pub outcome_from : Range → List Due → ℕ → Outcome
 outcome_from r ds at = go r (r.end + 1 - at) ds at
+
+-- the fault alone
+abbrev pub fault_from : Range → List Due → ℕ → Option FormatFault
+fault_from r ds at = (outcome_from r ds at).fault

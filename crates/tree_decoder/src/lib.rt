@@ -2,9 +2,11 @@
 #![tactic(auto)]
 
 mod cursor;
+mod laws;
 mod leaves;
 mod reading;
 #[cfg(test)]
 mod tests;
 
+pub use laws::{atoms_are_due, one_tree_is_spelled};
 pub use reading::read_tree;

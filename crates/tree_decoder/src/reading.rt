@@ -1,11 +1,13 @@
 ghost use Rattle.std.specs.Prelude.{◌≡◌, ◌≤◌, ◌<◌, ◌+◌, ◌-◌, ◌++◌, ◌∷◌, [], ℕ, Bool, length, true, OnOk, IfErr};
 ghost use Rattle.bast_base.specs.declared.errors.Halt.{Halt};
-ghost use Rattle.bast_schema.specs.Tree.{item_type};
+ghost use Rattle.bast_schema.specs.Held.{Held};
+ghost use Rattle.bast_schema.specs.Tree.{Tree, item_type};
 ghost use Rattle.tree_decoder.specs.Dues.{below, times};
 ghost use Rattle.tree_decoder.specs.Found.{Reads, ReadsAll, Spends, SpendsAll, Spent};
 ghost use Rattle.tree_decoder.specs.Numbers.{is_leaf};
 ghost use Rattle.tree_decoder.specs.Range.{range, range_of, IsSound};
 ghost use Rattle.tree_decoder.specs.Script.{ReadsScript, script_outcome};
+ghost use Rattle.tree_decoder.specs.Spelt.{IsSpelt, NoFault};
 
 use crate::cursor::Input;
 use crate::leaves::{item_count, leaf, node_kind};
@@ -221,6 +223,7 @@ pub fn read_tree<L>(
     requires order { from ≤ to }
     requires within { to ≤ length tape.now }
     ensures reads { ReadsScript (range kinds.now strings.now tape.now to) from result }
+    ensures only { (h : Held) (t : Tree) → IsSpelt (range kinds.now strings.now tape.now to) from h t → NoFault result }
     ensures cost { Spent (script_outcome (range kinds.now strings.now tape.now to) from).windows from to steps.old steps.new }
     ensures later { steps.old ≤ steps.new }
 {
@@ -247,6 +250,7 @@ fn whole_script<L>(
     requires sound { IsSound (range_of input.now) }
     requires at { at ≤ input.now.end }
     ensures reads { ReadsScript (range_of input.now) at result }
+    ensures only { (h : Held) (t : Tree) → IsSpelt (range_of input.now) at h t → NoFault result }
     ensures cost { Spent (script_outcome (range_of input.now) at).windows at input.now.end steps.old steps.new }
     ensures later { steps.old ≤ steps.new }
 {

@@ -1,11 +1,14 @@
-use Rattle.std.proofs.Common.{◌≡◌, subst, false, []}
+use Rattle.std.proofs.Common.{◌≡◌, subst, false, [], Ok, Err}
 use Rattle.std.proofs.lemmas.Result.{err_from_is_err_and}
+use Rattle.bast_base.specs.declared.errors.Halt.TheVariants.{Format}
+use Rattle.bast_base.specs.declared.errors.Why.TheVariants.{Trailing}
 use Rattle.bast_schema.specs.View.{datum}
 use Rattle.bast_schema.specs.declared.node.Value.{Value}
 use Rattle.tree_decoder.specs.Found.{Found}
+use Rattle.tree_decoder.specs.Numbers.{fault}
 use Rattle.tree_decoder.specs.Range.{range_of}
 use Rattle.tree_decoder.specs.Script.{script}
-use Rattle.tree_decoder.proofs.Scripts.{script_stands, bytes_left_over, script_spends}
+use Rattle.tree_decoder.proofs.Scripts.{script_stands, bytes_left_over, script_spends, only_memory, only_failed}
 use Rattle.tree_decoder.proofs.reading.whole_script.Goals as goal
 
 pub returns-then-next-input-clause-reads : goal.returns-then-next-input-clause-reads
@@ -21,3 +24,14 @@ returns-clause-reads g c =
 
 pub returns-clause-cost : goal.returns-clause-cost
 returns-clause-cost g c = script_spends (range_of c.args.input.now) c.args.at (datum c.in_ok-found.found) c.in_ok-found.next _ _ c.requires.sound c.in_ok-found.ensures.reads c.in_ok-found.ensures.spends
+
+pub returns-clause-only : goal.returns-clause-only
+returns-clause-only g c h t spelt = only_memory (range_of c.args.input.now) c.args.at (Ok c.in-Node.node) c.requires.sound c.requires.at (returns-clause-reads g c) h t spelt
+
+pub returns-then-next-input-clause-only : goal.returns-then-next-input-clause-only
+returns-then-next-input-clause-only g c h t spelt = only_memory (range_of c.args.input.now) c.args.at (Err (Format (fault c.in_ok-found.next Trailing))) c.requires.sound c.requires.at (returns-then-next-input-clause-reads g c) h t spelt
+
+pub returns-in_err-found-clause-only : goal.returns-in_err-found-clause-only
+returns-in_err-found-clause-only g c h t spelt =
+    let e = err_from_is_err_and c.from_residual.result c.from_residual.ensures.1 in
+    rw (e.1, e.2) (only_failed (range_of c.args.input.now) c.args.at c.in_err-found.field-0.0 c.requires.sound c.requires.at c.in_err-found.ensures.reads h t spelt)
