@@ -28,7 +28,7 @@ fn run_on(
         list.push(Chars::of(String::from_str(alloc, word)?))?;
     }
     let mut source = MemSource::new(input.to_vec(alloc)?, 7, failing_reads);
-    let mut sink = MemSink::new(vec![in alloc; 0; 200]?, 10, failing_writes);
+    let mut sink = MemSink::new(vec![in alloc; 0; 400]?, 10, failing_writes);
     let mut notes = MemSink::new(vec![in alloc; 0; 100]?, 100, Vec::new(alloc));
     let mut steps = Steps::many();
     let status = run(
@@ -102,7 +102,9 @@ fn understands_no_other_words(rt: HostRuntime) -> Result<(), Fail> {
         "encode eage",
         "encode eager eager",
         "eager encode",
-        "decode",
+        "decode eager",
+        "check decode",
+        "checks",
     ] {
         let refused = run_whole(alloc, words, b"1;")?;
         assert_eq!(rt; refused.status, 2);
@@ -137,5 +139,129 @@ fn tells_faults(rt: HostRuntime) -> Result<(), Fail> {
     assert_eq!(rt; cut.status, 4);
     assert_eq!(rt; cut.sink.written().len(), 20);
     assert_eq!(rt; cut.notes.written(), b"writing failed\n".as_slice());
+    Ok(())
+}
+
+// The file of an empty script.
+const EMPTY: &[u8] =
+    b"BINJS\x02[GRAMMAR]identity;\x44\x04\x0CScript\x32AssertedScriptGlobalScope[STRINGS]identity;\x02\x00[TREE]identity;\x0C\x00\x00\x02\x00\x00\x00";
+
+// Other bytes in that file from one place to another, and the line that then refuses it.
+#[derive(Clone, Copy)]
+struct Case {
+    from: usize,
+    to: usize,
+    put: &'static [u8],
+    line: &'static str,
+}
+
+const fn refused(from: usize, to: usize, put: &'static [u8], line: &'static str) -> Case {
+    Case {
+        from,
+        to,
+        put,
+        line,
+    }
+}
+
+fn edited(alloc: Global, case: &Case) -> Result<Vec<u8>, AllocError> {
+    let mut bytes = EMPTY.get(..case.from).unwrap_or(EMPTY).to_vec(alloc)?;
+    bytes.extend_from_slice(case.put)?;
+    bytes.extend_from_slice(EMPTY.get(case.to..).unwrap_or(&[]))?;
+    Ok(bytes)
+}
+
+// Whether a command refuses a file with this line, and writes nothing.
+fn refuses(alloc: Global, words: &str, file: &[u8], line: &str) -> Result<bool, AllocError> {
+    let ran = run_whole(alloc, words, file)?;
+    Ok(ran.status == 1 && ran.notes.written() == line.as_bytes() && ran.sink.written().is_empty())
+}
+
+#[test]
+fn accepts_the_file_of_an_empty_script(rt: HostRuntime) -> Result<(), Fail> {
+    let alloc = rt.alloc();
+    let ran = run_whole(alloc, "check", EMPTY)?;
+    assert_eq!(rt; ran.status, 0);
+    assert_eq!(rt;
+        ran.sink.written(),
+        b"ok: 101 bytes, 0 lazy functions\n".as_slice()
+    );
+    assert_eq!(rt; ran.notes.written().len(), 0);
+    Ok(())
+}
+
+#[test]
+fn lists_the_tree_of_a_file(rt: HostRuntime) -> Result<(), Fail> {
+    let alloc = rt.alloc();
+    let file = run_whole(alloc, "encode eager", b"1;")?;
+    let ran = run_whole(alloc, "decode", file.sink.written())?;
+    let listing =
+        "Script\n  directives: [0]\n  scope: AssertedScriptGlobalScope\n    declaredNames: [0]\n    hasDirectEval = false\n  statements: [1]\n    ExpressionStatement\n      expression: LiteralNumericExpression\n        value = 1\n";
+    assert_eq!(rt; ran.status, 0);
+    assert_eq!(rt; ran.sink.written(), listing.as_bytes());
+    Ok(())
+}
+
+#[test]
+fn refuses_files_with_their_first_fault(rt: HostRuntime) -> Result<(), Fail> {
+    let alloc = rt.alloc();
+    let cases = [
+        refused(77, 79, b"\x04\x01\x00", "file: Overlong at 79\n"),
+        refused(101, 101, b"\x00", "file: Trailing at 101\n"),
+        refused(5, 6, b"\x04", "file: BadVersion 2 at 5\n"),
+        refused(15, 16, b"g", "file: NotIdentity at 15\n"),
+        refused(
+            94,
+            101,
+            b"\x14\x00\x00\x02\x00\x00\xFF\xFF\xFF\xFF\x1E",
+            "file: Ended at 105\n",
+        ),
+        refused(
+            24,
+            59,
+            b"\x1E\x04\x0CScript\x0CScript",
+            "file: Repeated 0 at 34\n",
+        ),
+        refused(77, 79, b"\x06\x02\x02\xFF", "file: NotUtf8 at 80\n"),
+        refused(95, 96, b"\x02", "file: BadKind at 95\n"),
+        refused(97, 98, b"\x00", "file: BadKind at 97\n"),
+        refused(97, 98, b"\x04", "file: BadKind at 97\n"),
+        refused(99, 100, b"\x02", "file: BadBool at 99\n"),
+        refused(100, 101, b"\x02", "file: Ended at 101\n"),
+        refused(
+            94,
+            101,
+            b"\x0E\x00\x00\x02\x00\x00\x00\x00",
+            "file: Trailing at 101\n",
+        ),
+        refused(96, 97, b"\x02", "file: BadKind at 97\n"),
+    ];
+    for case in &cases {
+        let file = edited(alloc, case)?;
+        assert!(rt; refuses(alloc, "decode", &file, case.line)?);
+        assert!(rt; refuses(alloc, "check", &file, case.line)?);
+    }
+    Ok(())
+}
+
+// Each front of the file ends too early.
+#[test]
+fn refuses_each_front_of_a_file(rt: HostRuntime) -> Result<(), Fail> {
+    let alloc = rt.alloc();
+    for len in 0..101u32 {
+        let front = EMPTY.get(..len as usize).unwrap_or(EMPTY);
+        let line = format!(in alloc; "file: Ended at {len}\n")?;
+        assert!(rt; refuses(alloc, "check", front, line.as_str())?);
+    }
+    Ok(())
+}
+
+#[test]
+fn refuses_kinds_that_no_first_source_makes(rt: HostRuntime) -> Result<(), Fail> {
+    let alloc = rt.alloc();
+    let file =
+        b"BINJS\x02[GRAMMAR]identity;\x62\x06\x0CScript\x32AssertedScriptGlobalScope\x1CEmptyStatement[STRINGS]identity;\x02\x00[TREE]identity;\x0E\x00\x00\x02\x00\x00\x02\x04";
+    assert!(rt; refuses(alloc, "check", file, "file: NotYet at node 2\n")?);
+    assert!(rt; refuses(alloc, "decode", file, "file: NotYet at node 2\n")?);
     Ok(())
 }
