@@ -6,14 +6,9 @@ use Rattle.bast_base.specs.declared.errors.Halt.TheVariants.{Memory, Format}
 use Rattle.bast_schema.specs.Tree.{Tree}
 use Rattle.binast_run.specs.declared.files.File.{File}
 use Rattle.container.specs.declared.layout.Layout.{Layout}
-use Rattle.container.specs.IsContainer.{tables}
 use Rattle.container.specs.Layout.{layout_of}
-use Rattle.tree_decoder.specs.Range.{Range}
+use Rattle.tree_decoder.specs.Outer.{tree_range}
 use Rattle.tree_decoder.specs.Script.{IsScript, script_outcome}
-
--- where the tree of a file lies, and the tables that it is spelled over
-abbrev pub tree_range : List ℕ → Layout → Range
-tree_range bytes l = record { tables = tables l; tape = bytes; end = l.to }
 
 -- the first fault of the tree, where there is one
 abbrev pub tree_fault : List ℕ → Layout → Option FormatFault

@@ -15,7 +15,7 @@ use bast_schema::Node;
 use container::{Layout, read_layout};
 use js_printer::list_tree;
 use std::alloc::Global;
-use tree_decoder::read_tree;
+use tree_decoder::read_outer;
 
 // What was read of a file: its container, and its tree.
 #[derive(Drop)]
@@ -102,15 +102,7 @@ fn read_file<L>(alloc: Global, tape: &Tape<L>, steps: &mut Steps<L>) -> Result<F
         Ok(layout) => layout,
         Err(halt) => return Err(halt),
     };
-    match read_tree(
-        alloc,
-        tape,
-        &layout.kinds,
-        &layout.strings,
-        layout.from,
-        layout.to,
-        steps,
-    ) {
+    match read_outer(alloc, tape, &layout, steps) {
         Ok(tree) => Ok(File { layout, tree }),
         Err(halt) => Err(halt),
     }

@@ -4,6 +4,7 @@ pub mod Left
 pub mod Numbers
 pub mod OneTree
 pub mod Outcome
+pub mod Outer
 pub mod Range
 pub mod Script
 pub mod Spelt

@@ -4,9 +4,11 @@
 mod cursor;
 mod laws;
 mod leaves;
+mod outer;
 mod reading;
 #[cfg(test)]
 mod tests;
 
 pub use laws::{atoms_are_due, one_tree_is_spelled};
+pub use outer::read_outer;
 pub use reading::read_tree;
