@@ -3,6 +3,7 @@ pub mod Dues
 pub mod Machine
 pub mod Moves
 pub mod Nodes
+pub mod OfTree
 pub mod OneTree
 pub mod Runs
 pub mod Scripts

@@ -261,13 +261,13 @@ both_fit : (a b c : Bool) → (a && b) ≡ true → (b ≡ true → c ≡ true) 
 both_fit true b c e f = f e
 both_fit false b c e f = cc
 
-items_fit_times : (n : ℕ) (u : Union) (holes : Bool) (ds : Data) → fit (times n (item_type u holes)) ds ≡ true → items_fit u holes ds ≡ true
+pub items_fit_times : (n : ℕ) (u : Union) (holes : Bool) (ds : Data) → fit (times n (item_type u holes)) ds ≡ true → items_fit u holes ds ≡ true
 items_fit_times zero u holes none e = refl
 items_fit_times zero u holes (more d ds) e = cc
 items_fit_times (suc n) u holes none e = cc
 items_fit_times (suc n) u holes (more d ds) e = both_fit (fits (item_type u holes) d) (fit (times n (item_type u holes)) ds) (items_fit u holes ds) e (items_fit_times n u holes ds)
 
-length_times : (n : ℕ) (t : FieldType) → length (times n t) ≡ n
+pub length_times : (n : ℕ) (t : FieldType) → length (times n t) ≡ n
 length_times zero t = refl
 length_times (suc n) t = ap suc (length_times n t)
 

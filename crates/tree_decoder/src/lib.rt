@@ -8,5 +8,5 @@ mod reading;
 #[cfg(test)]
 mod tests;
 
-pub use laws::{atoms_are_due, one_tree_is_spelled};
+pub use laws::{atoms_are_due, one_tree_is_spelled, only_trees_leave_nothing_due};
 pub use reading::read_tree;
