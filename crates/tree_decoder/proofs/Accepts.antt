@@ -48,7 +48,7 @@ use Rattle.tree_decoder.specs.Range.{Range, IsSound, left}
 use Rattle.tree_decoder.specs.Spelt.{named, named_at, all_named}
 use Rattle.tree_decoder.specs.Windows.{windows_at}
 use Rattle.tree_decoder.proofs.Machine.{from_step}
-use Rattle.tree_decoder.proofs.Nodes.{node_goes, list_goes, framed_item, item_spelled}
+use Rattle.tree_decoder.proofs.Nodes.{node_goes, list_goes, framed_item, item_atoms, item_spelled}
 use Rattle.tree_decoder.proofs.Single.{leaf_atom, first_byte}
 use Rattle.tree_decoder.proofs.Spells.{is_ok, ok_is, range_split, range_drop, left_length}
 use Rattle.tree_decoder.proofs.Wholes.{whole_here}
@@ -297,19 +297,6 @@ items_long s h u holes (more d ds) e =
     let others : count ds ≤ length (spelled_items s h ds) = items_long s h u holes ds (and_second (fits (item_type u holes) d) (items_fit u holes ds) e) in
     let both : length (spelled_at s h (field.Optional Body) d ++ spelled_items s h ds) ≡ length (spelled_at s h (field.Optional Body) d) + length (spelled_items s h ds) = length-append (spelled_at s h (field.Optional Body) d) (spelled_items s h ds) in
     omega arith
-
-pub item_atoms : (h : Held) (u : Union) (holes : Bool) (d : Datum) → fits (item_type u holes) d ≡ true → atoms_of h (field.Optional Body) d ≡ atoms_of h (item_type u holes) d
-item_atoms h u holes (child t) e = refl
-item_atoms h u holes absent e = refl
-item_atoms h u holes (listed ds) e = refl
-item_atoms h u holes (flag b) e = refl
-item_atoms h u holes (index n) e = refl
-item_atoms h u holes (whole n) e = refl
-item_atoms h u holes (name n) e = refl
-item_atoms h u holes no_name e = refl
-item_atoms h u true (choice n) e = cc
-item_atoms h u false (choice n) e = cc
-item_atoms h u holes (window from to) e = refl
 
 -- ---- trees
 

@@ -22,7 +22,8 @@ use Rattle.container.specs.InFile.{is_eager, is_eager_at, are_eager}
 use Rattle.tree_decoder.specs.Dues.{Due, due, dues, times, below}
 use Rattle.tree_decoder.specs.Left.{puts, then_left, dues_left, is_folded, folded, folded_at, folded_fields, folded_items}
 use Rattle.tree_decoder.specs.Spelt.{named, named_at, all_named}
-use Rattle.tree_decoder.proofs.Accepts.{enough_of, choice_text_of, item_atoms, not_lazy}
+use Rattle.tree_decoder.proofs.Nodes.{item_atoms}
+use Rattle.tree_decoder.proofs.Accepts.{enough_of, choice_text_of, not_lazy}
 
 puts_plain : (u : Union) (k : Kind) (d : ℕ) (w : Bool) → allowed u k ≡ true → (w && has_lazy k) ≡ false → cond (allowed u k && not (w && has_lazy k)) (Some (dues (fields k) (below k d) w)) None ≡ Some (dues (fields k) (below k d) w)
 puts_plain u k d w allow eager = rw (allow, eager) refl

@@ -27,8 +27,7 @@ use Rattle.container.specs.InFile.{is_eager, is_eager_at, are_eager}
 use Rattle.tree_decoder.specs.Dues.{Due, due, dues, times, below}
 use Rattle.tree_decoder.specs.Left.{puts, then_left, dues_left, is_folded, folded, folded_at, folded_fields, folded_items, IsOfDue}
 use Rattle.tree_decoder.specs.Spelt.{named, named_at, all_named}
-use Rattle.tree_decoder.proofs.Accepts.{item_atoms}
-use Rattle.tree_decoder.proofs.Nodes.{items_fit_times, length_times}
+use Rattle.tree_decoder.proofs.Nodes.{items_fit_times, length_times, times_atoms, times_folded, plain_item, and_true}
 
 -- ---- texts and bytes for the atoms
 
@@ -130,10 +129,6 @@ OneAt n h = (t : FieldType) (d : ℕ) (w : Bool) (ds : List Due) (xs : List Atom
 abbrev SeveralAt : ℕ → Held → Type 0
 SeveralAt n h = (ts : List FieldType) (d : ℕ) (w : Bool) (ds : List Due) (xs : List Atom) → length xs ≤ n → Covers h xs → dues_left (dues ts d w ++ ds) xs ≡ Some [] → Several h ts w ds xs
 
-and_true : (a b : Bool) → a ≡ true → b ≡ true → (a && b) ≡ true
-and_true true b p q = q
-and_true false b p q = cc
-
 several_at : (n : ℕ) (h : Held) (ts : List FieldType) → OneAt n h → (d : ℕ) (w : Bool) (ds : List Due) (xs : List Atom) → length xs ≤ n → Covers h xs → dues_left (dues ts d w ++ ds) xs ≡ Some [] → Several h ts w ds xs
 several_at n h [] one d w ds xs few c e = record { values = none; others = xs; atoms = refl; fit = refl; named = refl; folded = refl; eager = λ yes. refl; rest = e; covers = c; shorter = omega arith }
 several_at n h (t ∷ ts) one d w ds xs few c e =
@@ -167,10 +162,6 @@ if_none false es ds others e = (refl, e)
 fits_node : (u : Union) (optional : Bool) (k : Kind) (vs : Data) → allowed u k ≡ true → fit (fields k) vs ≡ true → fits (item_type u optional) (child (branch k vs)) ≡ true
 fits_node u true k vs a f = and_true (allowed u k) (fit (fields k) vs) a f
 fits_node u false k vs a f = and_true (allowed u k) (fit (fields k) vs) a f
-
-plain_item : (u : Union) (optional : Bool) (v : Datum) → is_folded (item_type u optional) v ≡ true
-plain_item u true v = refl
-plain_item u false v = refl
 
 no_lazy : (w b : Bool) → not (w && b) ≡ true → w ≡ true → not b ≡ true
 no_lazy true b e in_window = e
@@ -210,23 +201,6 @@ one_optional n h u d w ds k xs true is several few c e =
 one_optional n h u d w ds k xs false is several few c e =
     let g = if_some (allowed u k && not (w && has_lazy k)) (dues (fields k) (below k d) w) ds xs e in
     one_node n h u true d w ds k xs several few c g.0 g.1
-
-times_atoms : (h : Held) (n : ℕ) (u : Union) (holes : Bool) (vs : Data) → fit (times n (item_type u holes)) vs ≡ true → atoms_of_fields h (times n (item_type u holes)) vs ≡ atoms_of_items h vs
-times_atoms h zero u holes none e = refl
-times_atoms h zero u holes (more v vs) e = cc
-times_atoms h (suc n) u holes none e = cc
-times_atoms h (suc n) u holes (more v vs) e =
-    let ok = and_first (fits (item_type u holes) v) (fit (times n (item_type u holes)) vs) e in
-    ap (λ (z : List Atom). z ++ atoms_of_fields h (times n (item_type u holes)) vs) (sym (item_atoms h u holes v ok))
-    ∙ ap (λ (z : List Atom). atoms_of h (field.Optional Body) v ++ z) (times_atoms h n u holes vs (and_second (fits (item_type u holes) v) (fit (times n (item_type u holes)) vs) e))
-
-times_folded : (n : ℕ) (t : FieldType) (vs : Data) → fit (times n t) vs ≡ true → folded_fields (times n t) vs ≡ true → folded_items vs ≡ true
-times_folded zero t none f e = refl
-times_folded zero t (more v vs) f e = cc
-times_folded (suc n) t none f e = cc
-times_folded (suc n) t (more v vs) f e =
-    let rest = and_second (is_folded t v) (folded_at v && folded_fields (times n t) vs) e in
-    and_true (folded_at v) (folded_items vs) (and_first (folded_at v) (folded_fields (times n t) vs) rest) (times_folded n t vs (and_second (fits t v) (fit (times n t) vs) f) (and_second (folded_at v) (folded_fields (times n t) vs) rest))
 
 filled_of : (filled : Bool) (n : ℕ) (t : FieldType) (vs : Data) → (filled && eqb n 0) ≡ false → fit (times n t) vs ≡ true → (not filled || not (is_none vs)) ≡ true
 filled_of false n t vs e f = refl

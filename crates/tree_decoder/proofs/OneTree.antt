@@ -32,8 +32,8 @@ use Rattle.container.specs.Atoms.{Atom, kind, text, chosen, atoms, atoms_of, ato
 use Rattle.container.specs.InFile.{has_atom}
 use Rattle.container.specs.Spelled.{framed, spelled, spelled_at, spelled_items, spelled_fields}
 use Rattle.container.specs.Tables.{Tables, kind_place, text_place}
-use Rattle.tree_decoder.proofs.Accepts.{any_place, pattern_small, item_atoms, first_atom, other_atoms, front_atoms, back_atoms}
-use Rattle.tree_decoder.proofs.Nodes.{framed_item, item_spelled}
+use Rattle.tree_decoder.proofs.Accepts.{any_place, pattern_small, first_atom, other_atoms, front_atoms, back_atoms}
+use Rattle.tree_decoder.proofs.Nodes.{framed_item, item_atoms, item_spelled}
 
 pub record Same (a b : List Atom) (x y : List ℕ) : Type 0 where
   pub atoms : a ≡ b

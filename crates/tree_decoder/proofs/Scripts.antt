@@ -37,6 +37,8 @@ script_stands r at t next f le =
       typed = and_second (allowed (One Script) (kind_of t)) (typed t) f.fits;
       shallow = omega arith;
       stands = f.stands;
+      has_all = f.has_all;
+      folded = f.folded;
       outcome = f.goes_on [] ∙ ap (behind (windows t)) (all_read r next le) ∙ ap as_outcome no_more;
     }
 
