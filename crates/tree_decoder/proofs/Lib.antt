@@ -10,4 +10,5 @@ pub mod Scripts
 pub mod Single
 pub mod Spells
 pub mod Spending
+pub mod Whole
 pub mod Wholes
