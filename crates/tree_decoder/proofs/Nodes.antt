@@ -1,5 +1,5 @@
 -- What is read of a node and of a list.
-use Rattle.std.proofs.Common.{ℕ, zero, suc, ◌+◌, ◌-◌, ◌^◌, ◌<◌, ◌≤◌, ◌≡◌, Bool, true, false, not, ◌&&◌, ◌||◌, cond, ltb, eqb, List, [], ◌∷◌, ◌++◌, length, Option, Some, None, Result, Ok, Err, refl, sym, ap, subst, ◌∙◌, arith, append_assoc, slice_get}
+use Rattle.std.proofs.Common.{ℕ, zero, suc, ◌+◌, ◌-◌, ◌≤◌, ◌≡◌, Bool, true, false, not, ◌&&◌, ◌||◌, cond, ltb, eqb, List, [], ◌∷◌, ◌++◌, length, Option, Some, None, Result, Ok, Err, refl, sym, ap, subst, ◌∙◌, arith, append_assoc, slice_get}
 use Rattle.std.specs.List.{list_all}
 use Rattle.std.specs.Option.{unwrap_or}
 use Rattle.std.proofs.lemmas.Bool.{ltb-false}
@@ -17,10 +17,9 @@ use Rattle.bast_schema.specs.declared.kind.Union.TheVariants.{Body}
 use Rattle.bast_schema.specs.declared.node.NodeFault.{NodeFault}
 use Rattle.bast_schema.specs.Fields.{fields, has_lazy}
 use Rattle.bast_schema.specs.Held.{Held}
-use Rattle.bast_schema.specs.KindTable.{place_of}
 use Rattle.bast_schema.specs.Kinds.{counted, same_kind}
 use Rattle.bast_schema.specs.Made.{node_of}
-use Rattle.bast_schema.specs.Tree.{Tree, branch, Datum, child, absent, listed, flag, index, whole, name, no_name, choice, window, Data, none, more, fits, fit, items_fit, item_type, is_none, count, depth, depth_at, depth_in, typed, kind_of}
+use Rattle.bast_schema.specs.Tree.{Tree, branch, Datum, child, absent, listed, flag, index, whole, name, no_name, choice, window, Data, none, more, fits, fit, items_fit, item_type, is_none, count, depth, depth_in, typed, kind_of}
 use Rattle.bast_schema.specs.Unions.{allowed}
 use Rattle.bast_schema.proofs.Both.{and_first, and_second}
 use Rattle.bast_schema.proofs.Distinct.{place_of_at}
@@ -32,13 +31,12 @@ use Rattle.container.specs.Atoms.{Atom, atoms_of, atoms_of_fields, atoms_of_item
 use Rattle.container.specs.InFile.{has_atom}
 use Rattle.container.specs.Spelled.{framed, spelled, spelled_at, spelled_items, spelled_fields}
 use Rattle.container.specs.Tables.{Tables, kind_place}
-use Rattle.tree_decoder.specs.Dues.{Due, due, dues, times, below, children, Taken, taken, atom_of}
+use Rattle.tree_decoder.specs.Dues.{Due, due, dues, times, below, children, taken, atom_of}
 use Rattle.tree_decoder.specs.Found.{Found, Run, Fails, Spent, SpentFails}
 use Rattle.tree_decoder.specs.Left.{is_folded, folded_at, folded_fields, folded_items}
 use Rattle.tree_decoder.specs.Numbers.{fault, ◌>>=◌, number_from, judged, kind_of_number, kind_at, count_at}
-use Rattle.tree_decoder.specs.Outcome.{Outcome, ends, behind, outcome_from}
+use Rattle.tree_decoder.specs.Outcome.{Outcome, ends, outcome_from}
 use Rattle.tree_decoder.specs.Range.{Range, IsSound, held, left}
-use Rattle.tree_decoder.specs.Windows.{windows_at, windows_in, skipped}
 use Rattle.tree_decoder.proofs.Machine.{from_step, from_fails}
 use Rattle.tree_decoder.proofs.Moves.{kind_moves, count_moves}
 use Rattle.tree_decoder.proofs.Single.{any_at}

@@ -1,5 +1,5 @@
 -- Atoms that leave nothing due are those of a tree.
-use Rattle.std.proofs.Common.{ℕ, zero, suc, ◌+◌, ◌-◌, ◌^◌, ◌<◌, ◌≤◌, ◌≡◌, Bool, true, false, not, ◌&&◌, ◌||◌, cond, eqb, nat_lt, nat_eq, get_or, length, take, drop, slice_range, List, [], ◌∷◌, ◌++◌, Option, Some, None, refl, sym, ap, subst, ◌∙◌, append_assoc, append-nil, arith}
+use Rattle.std.proofs.Common.{ℕ, zero, suc, ◌+◌, ◌-◌, ◌≤◌, ◌≡◌, Bool, true, false, not, ◌&&◌, ◌||◌, cond, eqb, nat_lt, length, take, drop, slice_range, List, [], ◌∷◌, ◌++◌, Option, Some, None, refl, sym, ap, ◌∙◌, append_assoc, append-nil, arith}
 use Rattle.std.specs.Option.{is_some}
 use Rattle.std.proofs.lemmas.Bool.{lt-ltb}
 use Rattle.std.proofs.lemmas.List.{drop-drop, drop_at, take_at}
@@ -10,7 +10,6 @@ use Rattle.bast_schema.specs.declared.kind.FieldType.TheVariants as field
 use Rattle.bast_schema.specs.declared.kind.Kind.{Kind}
 use Rattle.bast_schema.specs.declared.kind.Kind.TheVariants.{Null}
 use Rattle.bast_schema.specs.declared.kind.Union.{Union}
-use Rattle.bast_schema.specs.declared.kind.Union.TheVariants.{Body}
 use Rattle.bast_schema.specs.Choices.{choice_texts, choice_of_text}
 use Rattle.bast_schema.specs.Fields.{fields, has_lazy}
 use Rattle.bast_schema.specs.Held.{Held, text_of, bytes_of}
@@ -22,11 +21,11 @@ use Rattle.bast_schema.proofs.Both.{and_first, and_second}
 use Rattle.bast_schema.proofs.ChoiceTexts.{text_of_choice}
 use Rattle.bast_schema.proofs.EachKind.{same_kind_true}
 use Rattle.bast_schema.proofs.Lists.{count_fit}
-use Rattle.container.specs.Atoms.{Atom, kind, count, flag, index, whole, text, window, chosen, atoms_of, atoms_of_fields, atoms_of_items}
-use Rattle.container.specs.InFile.{is_eager, is_eager_at, are_eager}
+use Rattle.container.specs.Atoms.{Atom, kind, count, flag, index, whole, text, window, atoms_of, atoms_of_fields, atoms_of_items}
+use Rattle.container.specs.InFile.{is_eager_at, are_eager}
 use Rattle.tree_decoder.specs.Dues.{Due, due, dues, times, below}
-use Rattle.tree_decoder.specs.Left.{puts, then_left, dues_left, is_folded, folded, folded_at, folded_fields, folded_items, IsOfDue}
-use Rattle.tree_decoder.specs.Spelt.{named, named_at, all_named}
+use Rattle.tree_decoder.specs.Left.{puts, then_left, dues_left, is_folded, folded_at, folded_fields, IsOfDue}
+use Rattle.tree_decoder.specs.Spelt.{named_at, all_named}
 use Rattle.tree_decoder.proofs.Nodes.{items_fit_times, length_times, times_atoms, times_folded, plain_item, and_true}
 
 -- ---- texts and bytes for the atoms

@@ -1,15 +1,14 @@
 -- What is read, value after value.
-use Rattle.std.proofs.Common.{ℕ, zero, suc, ◌+◌, ◌-◌, ◌*◌, ◌^◌, ◌<◌, ◌≤◌, ◌≡◌, max, Bool, true, false, not, ◌&&◌, ◌||◌, cond, ltb, eqb, List, [], ◌∷◌, ◌++◌, length, take, drop, get_or, map, Option, Some, None, Result, Ok, Err, refl, sym, ap, subst, ◌∙◌, arith, append_assoc, append-nil, drop-cons, add-one, zero-add}
+use Rattle.std.proofs.Common.{ℕ, zero, suc, ◌+◌, ◌-◌, ◌<◌, ◌≤◌, ◌≡◌, Bool, true, false, ◌&&◌, List, [], ◌∷◌, ◌++◌, length, take, drop, get_or, refl, sym, ap, subst, ◌∙◌, arith, append_assoc, append-nil, drop-cons, add-one, zero-add}
 use Rattle.std.specs.List.{list_all}
 use Rattle.std.proofs.lemmas.List.{take-append-drop}
 use Rattle.std.proofs.lemmas.List.Folds.{list_all-append}
-use Rattle.bast_base.specs.declared.errors.FormatFault.{FormatFault}
 use Rattle.bast_base.specs.declared.errors.Halt.{Halt}
 use Rattle.bast_base.specs.declared.errors.Halt.TheVariants.{Memory, Format}
 use Rattle.bast_schema.specs.declared.kind.FieldType.{FieldType}
 use Rattle.bast_schema.specs.declared.node.Value.{Value}
 use Rattle.bast_schema.specs.Held.{Held}
-use Rattle.bast_schema.specs.Tree.{Datum, Data, none, more, fits, fit, depth_at, depth_in}
+use Rattle.bast_schema.specs.Tree.{Data, none, fits, fit, depth_at, depth_in}
 use Rattle.bast_schema.specs.View.{datum, data_of}
 use Rattle.bast_schema.proofs.Both.{and_first, and_second}
 use Rattle.container.specs.Atoms.{atoms_of, atoms_of_fields}

@@ -12,9 +12,8 @@ use Rattle.std.proofs.lemmas.Nat.{be_bytes_8}
 use Rattle.std.proofs.lemmas.Option.{get_or_from_slice_get, slice_get_within}
 use Rattle.bast_base.specs.declared.errors.FormatFault.{FormatFault}
 use Rattle.bast_base.specs.declared.errors.Halt.TheVariants.{Format}
-use Rattle.bast_base.specs.declared.errors.Why.TheVariants.{Ended, BadVariant, BadBool, BadWhole}
+use Rattle.bast_base.specs.declared.errors.Why.TheVariants.{Ended, BadBool}
 use Rattle.var_numbers.specs.Pattern.{pattern}
-use Rattle.var_numbers.specs.ReadClauses.{Spells}
 use Rattle.var_numbers.specs.Varnum.{varnum}
 use Rattle.var_numbers.proofs.RangeLemmas.{range-length}
 use Rattle.bast_schema.specs.declared.kind.EnumId.{EnumId}
@@ -25,22 +24,22 @@ use Rattle.bast_schema.specs.Choices.{choice_texts, choice_of_text}
 use Rattle.bast_schema.specs.Held.{text_of, bytes_of}
 use Rattle.bast_schema.specs.Tree.{Datum, flag, index, whole, name, no_name, choice, window, fits, depth_at}
 use Rattle.bast_schema.proofs.ChoiceTexts.{text_of_choice}
-use Rattle.string_table.specs.Entries.{place_in, is_same}
+use Rattle.string_table.specs.Entries.{is_same}
 use Rattle.string_table.proofs.Laws.{place_in-own, is_same-Decides}
 use Rattle.container.specs.Atoms.{Atom, text, chosen, atoms_of}
 use Rattle.container.specs.InFile.{has_atom}
 use Rattle.container.specs.Spelled.{framed, spelled_at}
 use Rattle.container.specs.Tables.{Tables, text_place}
-use Rattle.tree_decoder.specs.Dues.{Due, due, Taken, taken, atom_of}
+use Rattle.tree_decoder.specs.Dues.{Due, due, taken, atom_of}
 use Rattle.tree_decoder.specs.Found.{Found, Fails, SpentFails, Spent, stands_at, is_text}
 use Rattle.tree_decoder.specs.Numbers.{fault, ◌>>=◌, number_from, name_of, label_of, variant_of, choice_at, window_of, whole_with, whole_or, whole_at, flag_of, flag_at, numbered, leaf_at, is_leaf}
 use Rattle.tree_decoder.specs.Left.{is_folded, folded_at}
 use Rattle.tree_decoder.specs.Outcome.{Outcome, outcome_from}
 use Rattle.tree_decoder.specs.Range.{Range, IsSound, held, left}
-use Rattle.tree_decoder.specs.Windows.{windows_at, skipped}
+use Rattle.tree_decoder.specs.Windows.{windows_at}
 use Rattle.tree_decoder.proofs.Machine.{from_step, from_fails}
 use Rattle.tree_decoder.proofs.Moves.{leaf_moves}
-use Rattle.tree_decoder.proofs.Spells.{bind_ok, guard_ok, chosen_ok, is_ok, ok_is, number_spells, range_split}
+use Rattle.tree_decoder.proofs.Spells.{bind_ok, guard_ok, is_ok, ok_is, number_spells, range_split}
 use Rattle.tree_decoder.proofs.Wholes.{whole_is}
 
 both_true : (a b : Bool) → a ≡ true → b ≡ true → (a && b) ≡ true

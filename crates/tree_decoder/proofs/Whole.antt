@@ -1,12 +1,8 @@
 -- What a script that was read is, for those who ask of whole trees.
-use Rattle.std.proofs.Common.{ℕ, ◌≡◌, Bool, true, false, not, ◌&&◌, List, [], ◌∷◌, Option, Some, None, refl, sym, ap, ◌∙◌, slice_get}
+use Rattle.std.proofs.Common.{ℕ, ◌≡◌, true, List, Option, Some, None, refl, sym, ap, ◌∙◌, slice_get}
 use Rattle.std.specs.Option.{is_some}
 use Rattle.std.proofs.lemmas.Option.{get_or_from_slice_get}
-use Rattle.bast_schema.specs.declared.kind.FieldType.{FieldType}
-use Rattle.bast_schema.specs.declared.kind.FieldType.TheVariants as field
-use Rattle.bast_schema.specs.declared.kind.Union.TheVariants.{Body}
-use Rattle.bast_schema.specs.Counts.{is_whole, is_whole_at, is_whole_in}
-use Rattle.bast_schema.specs.Fields.{fields}
+use Rattle.bast_schema.specs.Counts.{is_whole}
 use Rattle.bast_schema.specs.Held.{Held, text_of}
 use Rattle.bast_schema.specs.Tree.{Tree, branch, Datum, child, absent, listed, flag, index, whole, name, no_name, choice, window, Data, none, more}
 use Rattle.bast_schema.proofs.Both.{and_first, and_second}

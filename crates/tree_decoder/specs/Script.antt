@@ -1,5 +1,5 @@
 -- The script that a range of bytes spells, or its fault.
-use Rattle.std.specs.Prelude.{ℕ, true, false, List, [], ◌∷◌, ◌≤◌, ◌≡◌, IsTrue, Option, Some, None, Result, Ok, Err}
+use Rattle.std.specs.Prelude.{ℕ, false, [], ◌∷◌, ◌≤◌, ◌≡◌, IsTrue, Some, None, Result, Ok, Err}
 use Rattle.std.specs.List.{list_all}
 use Rattle.bast_base.specs.declared.errors.Halt.{Halt}
 use Rattle.bast_base.specs.declared.errors.Halt.TheVariants.{Memory, Format}
@@ -11,8 +11,8 @@ use Rattle.bast_schema.specs.Tree.{Tree, typed, depth, kind_of}
 use Rattle.container.specs.Atoms.{atoms}
 use Rattle.container.specs.InFile.{has_atom}
 use Rattle.container.specs.Spelled.{spelled}
-use Rattle.tree_decoder.specs.Dues.{Due, due}
-use Rattle.tree_decoder.specs.Found.{stands, Spent}
+use Rattle.tree_decoder.specs.Dues.{due}
+use Rattle.tree_decoder.specs.Found.{stands}
 use Rattle.tree_decoder.specs.Left.{folded}
 use Rattle.tree_decoder.specs.Outcome.{Outcome, outcome_from}
 use Rattle.tree_decoder.specs.Range.{Range, held, left}

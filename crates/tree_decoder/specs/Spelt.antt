@@ -1,5 +1,5 @@
 -- Which trees are spelled by a range, whatever read them.
-use Rattle.std.specs.Prelude.{ℕ, Bool, true, ◌&&◌, ◌≤◌, ◌≡◌, List, Option, IsTrue, is_some, Result, Ok, Err}
+use Rattle.std.specs.Prelude.{ℕ, Bool, true, ◌&&◌, ◌≤◌, ◌≡◌, IsTrue, is_some, Result, Ok, Err}
 use Rattle.std.specs.List.{list_all}
 use Rattle.bast_base.specs.declared.errors.Halt.{Halt}
 use Rattle.bast_base.specs.declared.errors.Halt.TheVariants.{Memory, Format}

@@ -1,4 +1,4 @@
-use Rattle.std.proofs.Common.{◌≡◌, subst, false, [], Ok, Err}
+use Rattle.std.proofs.Common.{subst, false, Ok, Err}
 use Rattle.std.proofs.lemmas.Result.{err_from_is_err_and}
 use Rattle.bast_base.specs.declared.errors.Halt.TheVariants.{Format}
 use Rattle.bast_base.specs.declared.errors.Why.TheVariants.{Trailing}
