@@ -1,5 +1,5 @@
 -- What the reading of a container costs, and what is known of a script that was read.
-use Rattle.std.proofs.Common.{◌≡◌, ℕ, ◌+◌, ◌-◌, ◌<◌, ◌≤◌, ◌^◌, List, [], ◌∷◌, ◌++◌, length, Result, Ok, Err, refl, sym, ap, ◌∙◌, arith}
+use Rattle.std.proofs.Common.{◌≡◌, ℕ, ◌-◌, ◌≤◌, List, [], ◌∷◌, ◌++◌, length, Result, Ok, Err, refl, sym, ap, ◌∙◌, arith}
 use Rattle.bast_base.specs.declared.errors.FormatFault.{FormatFault}
 use Rattle.container.specs.Answers.{◌>>=◌}
 use Rattle.container.specs.Layout.{Due, tree, input_end, Reached, before_tree, dues, start, reach, reach_all, layout_of, outside, less_content}

@@ -1,15 +1,13 @@
 -- What spells a tree is read with no fault.
-use Rattle.std.proofs.Common.{ℕ, zero, suc, ◌+◌, ◌-◌, ◌*◌, ◌/◌, ◌^◌, ◌<◌, ◌≤◌, ◌≡◌, Bool, true, false, not, ◌&&◌, ◌||◌, cond, ltb, eqb, nat_lt, List, [], ◌∷◌, ◌++◌, length, take, drop, get_or, Option, Some, None, Result, Ok, Err, refl, sym, ap, subst, ◌∙◌, arith, append_assoc, append-nil, slice_get, slice_index, slice_range, add-zero, inl, inr}
+use Rattle.std.proofs.Common.{ℕ, zero, suc, ◌+◌, ◌-◌, ◌^◌, ◌<◌, ◌≤◌, ◌≡◌, Bool, true, false, not, ◌&&◌, ◌||◌, cond, ltb, eqb, List, [], ◌∷◌, ◌++◌, length, take, drop, get_or, Option, Some, None, Ok, refl, sym, ap, ◌∙◌, arith, append_assoc, slice_get, slice_index, slice_range, add-zero}
 use Rattle.std.specs.List.{list_all, list_any, position_from}
 use Rattle.std.specs.Option.{is_some, unwrap_or}
 use Rattle.std.specs.Int.{w64, from_be_bytes, to_be_bytes}
-use Rattle.std.proofs.lemmas.Bool.{ltb-false, ltb-true, lt-ltb, le-ltb, cases_lt}
-use Rattle.std.proofs.lemmas.Bool.Decides.{nat_tests}
+use Rattle.std.proofs.lemmas.Bool.{ltb-true, lt-ltb, le-ltb}
 use Rattle.std.proofs.lemmas.List.{take_at, drop_at, length-append}
 use Rattle.std.proofs.lemmas.List.Folds.{list_all-append}
 use Rattle.std.proofs.lemmas.Nat.{from_be_bytes-to_be_bytes_8}
 use Rattle.std.proofs.lemmas.Option.{slice_get_within, slice_get-get_or}
-use Rattle.bast_base.specs.declared.errors.FormatFault.{FormatFault}
 use Rattle.var_numbers.specs.Pattern.{pattern}
 use Rattle.var_numbers.specs.Varnum.{varnum}
 use Rattle.var_numbers.proofs.PatternLemmas.{pattern-zero, parts_of}
@@ -25,7 +23,6 @@ use Rattle.bast_schema.specs.declared.kind.Union.TheVariants.{Body}
 use Rattle.bast_schema.specs.Choices.{choice_texts, choice_of_text}
 use Rattle.bast_schema.specs.Fields.{fields, has_lazy}
 use Rattle.bast_schema.specs.Held.{Held, text_of, bytes_of}
-use Rattle.bast_schema.specs.KindTable.{place_of}
 use Rattle.bast_schema.specs.Kinds.{counted, same_kind}
 use Rattle.bast_schema.specs.Tree.{Tree, branch, Datum, child, absent, listed, flag, index, whole, name, no_name, choice, window, Data, none, more, fits, fit, items_fit, item_type, is_none, count, depth, depth_at, depth_in, typed, kind_of}
 use Rattle.bast_schema.specs.Unions.{allowed}
@@ -41,16 +38,16 @@ use Rattle.container.specs.Atoms.{Atom, kind, text, chosen, atoms, atoms_of, ato
 use Rattle.container.specs.InFile.{has_atom, is_eager, is_eager_at, are_eager}
 use Rattle.container.specs.Spelled.{framed, spelled, spelled_at, spelled_items, spelled_fields}
 use Rattle.container.specs.Tables.{Tables, kind_place, text_place}
-use Rattle.tree_decoder.specs.Dues.{Due, due, dues, times, below, children, Taken, taken, atom_of}
-use Rattle.tree_decoder.specs.Numbers.{◌>>=◌, number_from, judged, kind_of_number, kind_at, count_at, name_of, label_of, variant_of, choice_at, window_of, flag_at, whole_at, numbered, leaf_at, is_leaf}
-use Rattle.tree_decoder.specs.Outcome.{Outcome, outcome_from, fault_from}
+use Rattle.tree_decoder.specs.Dues.{Due, due, dues, times, below, children, taken}
+use Rattle.tree_decoder.specs.Numbers.{◌>>=◌, number_from, judged, kind_of_number, kind_at, count_at, name_of, label_of, variant_of, choice_at, flag_at, numbered, leaf_at, is_leaf}
+use Rattle.tree_decoder.specs.Outcome.{Outcome, fault_from}
 use Rattle.tree_decoder.specs.Range.{Range, IsSound, left}
 use Rattle.tree_decoder.specs.Spelt.{named, named_at, all_named}
 use Rattle.tree_decoder.specs.Windows.{windows_at}
 use Rattle.tree_decoder.proofs.Machine.{from_step}
-use Rattle.tree_decoder.proofs.Nodes.{node_goes, list_goes, framed_item, item_spelled}
+use Rattle.tree_decoder.proofs.Nodes.{node_goes, list_goes, framed_item, item_atoms, item_spelled}
 use Rattle.tree_decoder.proofs.Single.{leaf_atom, first_byte}
-use Rattle.tree_decoder.proofs.Spells.{is_ok, ok_is, range_split, range_drop, left_length}
+use Rattle.tree_decoder.proofs.Spells.{is_ok, range_split, range_drop, left_length}
 use Rattle.tree_decoder.proofs.Wholes.{whole_here}
 
 -- ---- parts of the bytes
@@ -297,19 +294,6 @@ items_long s h u holes (more d ds) e =
     let others : count ds ≤ length (spelled_items s h ds) = items_long s h u holes ds (and_second (fits (item_type u holes) d) (items_fit u holes ds) e) in
     let both : length (spelled_at s h (field.Optional Body) d ++ spelled_items s h ds) ≡ length (spelled_at s h (field.Optional Body) d) + length (spelled_items s h ds) = length-append (spelled_at s h (field.Optional Body) d) (spelled_items s h ds) in
     omega arith
-
-pub item_atoms : (h : Held) (u : Union) (holes : Bool) (d : Datum) → fits (item_type u holes) d ≡ true → atoms_of h (field.Optional Body) d ≡ atoms_of h (item_type u holes) d
-item_atoms h u holes (child t) e = refl
-item_atoms h u holes absent e = refl
-item_atoms h u holes (listed ds) e = refl
-item_atoms h u holes (flag b) e = refl
-item_atoms h u holes (index n) e = refl
-item_atoms h u holes (whole n) e = refl
-item_atoms h u holes (name n) e = refl
-item_atoms h u holes no_name e = refl
-item_atoms h u true (choice n) e = cc
-item_atoms h u false (choice n) e = cc
-item_atoms h u holes (window from to) e = refl
 
 -- ---- trees
 

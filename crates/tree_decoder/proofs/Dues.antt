@@ -1,5 +1,5 @@
 -- The atoms of a typed tree are what is due.
-use Rattle.std.proofs.Common.{ℕ, ◌+◌, ◌≡◌, Bool, true, false, not, ◌&&◌, ◌||◌, cond, eqb, nat_lt, nat_eq, get_or, length, List, [], ◌∷◌, ◌++◌, Option, Some, None, refl, sym, ap, ◌∙◌, append_assoc, arith}
+use Rattle.std.proofs.Common.{ℕ, ◌≡◌, Bool, true, false, not, ◌&&◌, ◌||◌, cond, nat_lt, get_or, length, List, [], ◌∷◌, ◌++◌, Some, None, refl, sym, ap, ◌∙◌, append_assoc}
 use Rattle.std.specs.Option.{is_some}
 use Rattle.std.proofs.lemmas.Bool.{ltb-true}
 use Rattle.bast_schema.specs.declared.kind.EnumId.{EnumId}
@@ -8,7 +8,6 @@ use Rattle.bast_schema.specs.declared.kind.FieldType.TheVariants as field
 use Rattle.bast_schema.specs.declared.kind.Kind.{Kind}
 use Rattle.bast_schema.specs.declared.kind.Kind.TheVariants.{Null}
 use Rattle.bast_schema.specs.declared.kind.Union.{Union}
-use Rattle.bast_schema.specs.declared.kind.Union.TheVariants.{Body}
 use Rattle.bast_schema.specs.Choices.{choice_texts, choice_of_text}
 use Rattle.bast_schema.specs.Fields.{fields, has_lazy}
 use Rattle.bast_schema.specs.Held.{Held, text_of}
@@ -22,7 +21,8 @@ use Rattle.container.specs.InFile.{is_eager, is_eager_at, are_eager}
 use Rattle.tree_decoder.specs.Dues.{Due, due, dues, times, below}
 use Rattle.tree_decoder.specs.Left.{puts, then_left, dues_left, is_folded, folded, folded_at, folded_fields, folded_items}
 use Rattle.tree_decoder.specs.Spelt.{named, named_at, all_named}
-use Rattle.tree_decoder.proofs.Accepts.{enough_of, choice_text_of, item_atoms, not_lazy}
+use Rattle.tree_decoder.proofs.Nodes.{item_atoms}
+use Rattle.tree_decoder.proofs.Accepts.{enough_of, choice_text_of, not_lazy}
 
 puts_plain : (u : Union) (k : Kind) (d : ℕ) (w : Bool) → allowed u k ≡ true → (w && has_lazy k) ≡ false → cond (allowed u k && not (w && has_lazy k)) (Some (dues (fields k) (below k d) w)) None ≡ Some (dues (fields k) (below k d) w)
 puts_plain u k d w allow eager = rw (allow, eager) refl

@@ -3,10 +3,12 @@ pub mod Dues
 pub mod Machine
 pub mod Moves
 pub mod Nodes
+pub mod OfTree
 pub mod OneTree
 pub mod Runs
 pub mod Scripts
 pub mod Single
 pub mod Spells
 pub mod Spending
+pub mod Whole
 pub mod Wholes

@@ -1,11 +1,11 @@
 -- What comes of reading, atom by atom: the bound on their number doesn't matter.
-use Rattle.std.proofs.Common.{ℕ, zero, suc, ◌+◌, ◌-◌, ◌<◌, ◌≤◌, ◌≡◌, Bool, true, false, cond, ltb, List, [], ◌∷◌, ◌++◌, Option, Some, None, Result, Ok, Err, refl, sym, ap, subst, ◌∙◌, arith, append_assoc}
+use Rattle.std.proofs.Common.{ℕ, zero, suc, ◌+◌, ◌-◌, ◌<◌, ◌≤◌, ◌≡◌, Bool, true, false, cond, ltb, List, [], ◌∷◌, ◌++◌, Some, None, Result, Ok, Err, refl, ap, ◌∙◌, arith}
 use Rattle.std.proofs.lemmas.Bool.{lt-ltb, le-ltb}
 use Rattle.bast_base.specs.declared.errors.FormatFault.{FormatFault}
 use Rattle.bast_base.specs.declared.errors.Why.TheVariants.{Trailing}
 use Rattle.tree_decoder.specs.Dues.{Due, Taken, atom_at}
 use Rattle.tree_decoder.specs.Numbers.{fault}
-use Rattle.tree_decoder.specs.Outcome.{Outcome, ends, behind, after, done, go, outcome_from}
+use Rattle.tree_decoder.specs.Outcome.{ends, behind, after, done, go, outcome_from}
 use Rattle.tree_decoder.specs.Range.{Range, IsSound}
 use Rattle.tree_decoder.specs.Windows.{skipped}
 use Rattle.tree_decoder.proofs.Moves.{atom_moves}

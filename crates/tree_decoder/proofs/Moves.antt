@@ -1,9 +1,8 @@
 -- Each atom goes forward within the range.
-use Rattle.std.proofs.Common.{ℕ, zero, suc, ◌+◌, ◌-◌, ◌<◌, ◌≤◌, ◌≡◌, Bool, true, false, not, ◌&&◌, ◌||◌, cond, ltb, eqb, List, [], ◌∷◌, ◌++◌, Option, Some, None, Result, Ok, Err, refl, sym, ap, subst, ◌∙◌, arith, slice_get, slice_index, slice_range}
+use Rattle.std.proofs.Common.{ℕ, ◌+◌, ◌-◌, ◌<◌, ◌≤◌, ◌≡◌, Bool, true, false, not, ◌&&◌, ◌||◌, cond, ltb, eqb, List, [], Option, Some, None, Ok, Err, refl, ap, subst, arith, slice_get, slice_index, slice_range}
 use Rattle.std.proofs.lemmas.Bool.{ltb-false, ltb-true}
 use Rattle.std.specs.Int.{from_be_bytes, w64}
-use Rattle.bast_base.specs.declared.errors.FormatFault.{FormatFault}
-use Rattle.bast_base.specs.declared.errors.Why.TheVariants.{Ended, BadKind, BadBool, BadWhole, EmptyList, TooDeep}
+use Rattle.bast_base.specs.declared.errors.Why.TheVariants.{Ended, BadKind, BadBool, EmptyList, TooDeep}
 use Rattle.bast_schema.specs.declared.kind.FieldType.{FieldType}
 use Rattle.bast_schema.specs.declared.kind.FieldType.TheVariants as field
 use Rattle.bast_schema.specs.declared.kind.Kind.{Kind}
@@ -13,7 +12,7 @@ use Rattle.bast_schema.specs.Fields.{has_lazy}
 use Rattle.bast_schema.specs.Kinds.{counted, same_kind}
 use Rattle.bast_schema.specs.Tree.{Datum, flag, whole, item_type}
 use Rattle.bast_schema.specs.Unions.{allowed}
-use Rattle.tree_decoder.specs.Dues.{Due, Taken, taken, dues, times, children, atom_of}
+use Rattle.tree_decoder.specs.Dues.{Taken, taken, dues, times, children, atom_of}
 use Rattle.tree_decoder.specs.Found.{Spent}
 use Rattle.tree_decoder.specs.Numbers.{fault, ◌>>=◌, number_from, judged, kind_of_number, kind_at, count_at, whole_with, whole_or, whole_at, flag_of, flag_at, numbered, leaf_at}
 use Rattle.tree_decoder.specs.Range.{Range, IsSound}

@@ -1,5 +1,6 @@
 -- What is read of a node and of a list.
-use Rattle.std.proofs.Common.{ℕ, zero, suc, ◌+◌, ◌-◌, ◌^◌, ◌<◌, ◌≤◌, ◌≡◌, Bool, true, false, not, ◌&&◌, ◌||◌, cond, ltb, eqb, List, [], ◌∷◌, ◌++◌, length, Option, Some, None, Result, Ok, Err, refl, sym, ap, subst, ◌∙◌, arith, append_assoc, slice_get}
+use Rattle.std.proofs.Common.{ℕ, zero, suc, ◌+◌, ◌-◌, ◌≤◌, ◌≡◌, Bool, true, false, not, ◌&&◌, ◌||◌, cond, ltb, eqb, List, [], ◌∷◌, ◌++◌, length, Option, Some, None, Result, Ok, Err, refl, sym, ap, subst, ◌∙◌, arith, append_assoc, slice_get}
+use Rattle.std.specs.List.{list_all}
 use Rattle.std.specs.Option.{unwrap_or}
 use Rattle.std.proofs.lemmas.Bool.{ltb-false}
 use Rattle.bast_base.specs.declared.errors.FormatFault.{FormatFault}
@@ -16,29 +17,36 @@ use Rattle.bast_schema.specs.declared.kind.Union.TheVariants.{Body}
 use Rattle.bast_schema.specs.declared.node.NodeFault.{NodeFault}
 use Rattle.bast_schema.specs.Fields.{fields, has_lazy}
 use Rattle.bast_schema.specs.Held.{Held}
-use Rattle.bast_schema.specs.KindTable.{place_of}
 use Rattle.bast_schema.specs.Kinds.{counted, same_kind}
 use Rattle.bast_schema.specs.Made.{node_of}
-use Rattle.bast_schema.specs.Tree.{Tree, branch, Datum, child, absent, listed, flag, index, whole, name, no_name, choice, window, Data, none, more, fits, fit, items_fit, item_type, is_none, count, depth, depth_at, depth_in, typed, kind_of}
+use Rattle.bast_schema.specs.Tree.{Tree, branch, Datum, child, absent, listed, flag, index, whole, name, no_name, choice, window, Data, none, more, fits, fit, items_fit, item_type, is_none, count, depth, depth_in, typed, kind_of}
 use Rattle.bast_schema.specs.Unions.{allowed}
 use Rattle.bast_schema.proofs.Both.{and_first, and_second}
 use Rattle.bast_schema.proofs.Distinct.{place_of_at}
-use Rattle.bast_schema.proofs.EachKind.{same_kind_true}
+use Rattle.bast_schema.proofs.EachKind.{same_kind_self, same_kind_true}
 use Rattle.bast_schema.proofs.Lists.{count_fit}
 use Rattle.bast_schema.proofs.Typed.{made_where_fit}
+use Rattle.container.specs.Atoms as atom
+use Rattle.container.specs.Atoms.{Atom, atoms_of, atoms_of_fields, atoms_of_items}
+use Rattle.container.specs.InFile.{has_atom}
 use Rattle.container.specs.Spelled.{framed, spelled, spelled_at, spelled_items, spelled_fields}
 use Rattle.container.specs.Tables.{Tables, kind_place}
-use Rattle.tree_decoder.specs.Dues.{Due, due, dues, times, below, children, Taken, taken, atom_of}
+use Rattle.tree_decoder.specs.Dues.{Due, due, dues, times, below, children, taken, atom_of}
 use Rattle.tree_decoder.specs.Found.{Found, Run, Fails, Spent, SpentFails}
+use Rattle.tree_decoder.specs.Left.{is_folded, folded_at, folded_fields, folded_items}
 use Rattle.tree_decoder.specs.Numbers.{fault, ◌>>=◌, number_from, judged, kind_of_number, kind_at, count_at}
-use Rattle.tree_decoder.specs.Outcome.{Outcome, ends, behind, outcome_from}
+use Rattle.tree_decoder.specs.Outcome.{Outcome, ends, outcome_from}
 use Rattle.tree_decoder.specs.Range.{Range, IsSound, held, left}
-use Rattle.tree_decoder.specs.Windows.{windows_at, windows_in, skipped}
 use Rattle.tree_decoder.proofs.Machine.{from_step, from_fails}
 use Rattle.tree_decoder.proofs.Moves.{kind_moves, count_moves}
+use Rattle.tree_decoder.proofs.Single.{any_at}
 use Rattle.tree_decoder.proofs.Spells.{bind_ok, guard_ok, is_ok, ok_is, number_spells}
 
 -- ---- kinds
+
+pub and_true : (a b : Bool) → a ≡ true → b ≡ true → (a && b) ≡ true
+and_true true b p q = q
+and_true false b p q = cc
 
 pub record Judged (u : Union) (d next : ℕ) (j k : Kind) (m : ℕ) : Type 0 where
   pub same : j ≡ k
@@ -83,6 +91,10 @@ numbered_absent : (o : Option Kind) (u : Union) (optional : Bool) (d : ℕ) (w :
 numbered_absent None u optional d w at next m e = absurd cc
 numbered_absent (Some j) u optional d w at next m e = (j, refl, chose_absent (optional && same_kind j Null) u d w at next j m e)
 
+-- a kind that is read stands in the table
+kind_has : (r : Range) (n : ℕ) (k : Kind) → slice_get r.tables.kinds n ≡ Some k → has_atom r.tables (atom.kind k) ≡ true
+kind_has r n k is = any_at (λ j. same_kind j k) r.tables.kinds n k is (same_kind_self k)
+
 -- a kind is spelled by its number
 kind_here : (r : Range) (n : ℕ) (k : Kind) → IsSound r → slice_get r.tables.kinds n ≡ Some k → kind_place r.tables k ≡ n
 kind_here r n k sound is = ap (λ (o : Option ℕ). unwrap_or o (length r.tables.kinds)) (place_of_at r.tables.kinds k n sound.kinds is)
@@ -94,6 +106,7 @@ pub record KindStands (r : Range) (u : Union) (d at : ℕ) (k : Kind) (m : ℕ) 
   pub spelled : left r at ≡ varnum (kind_place r.tables k) ++ left r m
   pub allowed : allowed u k ≡ true
   pub shallow : (counted k && ltb 512 d) ≡ false
+  pub has : has_atom r.tables (atom.kind k) ≡ true
 
 pub kind_stands : (r : Range) (u : Union) (optional : Bool) (d : ℕ) (w : Bool) (at : ℕ) (k : Kind) (m : ℕ) → IsSound r → at ≤ r.end → kind_at r u optional d w at ≡ Ok (Some k, m) → KindStands r u d at k m
 unfolding kind_at
@@ -101,16 +114,16 @@ kind_stands r u optional d w at k m sound order e =
     let b = bind_ok (number_from r at) (λ n. kind_of_number u optional d w at n.1 (slice_get r.tables.kinds n.0)) (Some k, m) e in
     let j = numbered_kind (slice_get r.tables.kinds b.0.0) u optional d w at b.0.1 k m b.2 in
     let place : kind_place r.tables k ≡ b.0.0 = ap (kind_place r.tables) (sym j.2.same) ∙ kind_here r b.0.0 j.0 sound j.1 in
-    record { spelled = spelled_as r at b.0.0 b.0.1 (kind_place r.tables k) m place j.2.place (number_spells r at b.0 sound order b.1).front; allowed = j.2.allowed; shallow = j.2.shallow }
+    record { spelled = spelled_as r at b.0.0 b.0.1 (kind_place r.tables k) m place j.2.place (number_spells r at b.0 sound order b.1).front; allowed = j.2.allowed; shallow = j.2.shallow; has = ap (λ (i : Kind). has_atom r.tables (atom.kind i)) (sym j.2.same) ∙ kind_has r b.0.0 j.0 j.1 }
 
-pub absent_stands : (r : Range) (u : Union) (optional : Bool) (d : ℕ) (w : Bool) (at m : ℕ) → IsSound r → at ≤ r.end → kind_at r u optional d w at ≡ Ok (None, m) → (left r at ≡ varnum (kind_place r.tables Null) ++ left r m) × (optional ≡ true)
+pub absent_stands : (r : Range) (u : Union) (optional : Bool) (d : ℕ) (w : Bool) (at m : ℕ) → IsSound r → at ≤ r.end → kind_at r u optional d w at ≡ Ok (None, m) → (left r at ≡ varnum (kind_place r.tables Null) ++ left r m) × (optional ≡ true) × (has_atom r.tables (atom.kind Null) ≡ true)
 unfolding kind_at
 absent_stands r u optional d w at m sound order e =
     let b = bind_ok (number_from r at) (λ n. kind_of_number u optional d w at n.1 (slice_get r.tables.kinds n.0)) (None, m) e in
     let j = numbered_absent (slice_get r.tables.kinds b.0.0) u optional d w at b.0.1 m b.2 in
     let null : j.0 ≡ Null = same_kind_true j.0 Null (and_second optional (same_kind j.0 Null) j.2.0) in
     let place : kind_place r.tables Null ≡ b.0.0 = ap (kind_place r.tables) (sym null) ∙ kind_here r b.0.0 j.0 sound j.1 in
-    (spelled_as r at b.0.0 b.0.1 (kind_place r.tables Null) m place j.2.1 (number_spells r at b.0 sound order b.1).front, and_first optional (same_kind j.0 Null) j.2.0)
+    (spelled_as r at b.0.0 b.0.1 (kind_place r.tables Null) m place j.2.1 (number_spells r at b.0 sound order b.1).front, and_first optional (same_kind j.0 Null) j.2.0, ap (λ (i : Kind). has_atom r.tables (atom.kind i)) (sym null) ∙ kind_has r b.0.0 j.0 j.1)
 
 -- ---- nodes
 
@@ -125,6 +138,10 @@ framed_item u false bytes = refl
 fits_child : (u : Union) (optional : Bool) (t : Tree) → allowed u (kind_of t) ≡ true → typed t ≡ true → fits (item_type u optional) (child t) ≡ true
 fits_child u true t a e = rw (a, e) refl
 fits_child u false t a e = rw (a, e) refl
+
+pub plain_item : (u : Union) (optional : Bool) (v : Datum) → is_folded (item_type u optional) v ≡ true
+plain_item u true v = refl
+plain_item u false v = refl
 
 fits_absent : (u : Union) (optional : Bool) → optional ≡ true → fits (item_type u optional) absent ≡ true
 fits_absent u true e = refl
@@ -153,6 +170,8 @@ node_found r u optional d w at k m ds next sound order small e run =
       fits = fits_child u optional (branch k ds) st.allowed run.fits;
       depth = depth_of_node (counted k) (ltb 512 d) d (depth_in ds) st.shallow (λ b. ltb-false _ _ b) small run.depth;
       stands = run.stands;
+      has_all = and_true (has_atom r.tables (atom.kind k)) (list_all (has_atom r.tables) (atoms_of_fields (held r) (fields k) ds)) st.has run.has_all;
+      folded = and_true (is_folded (item_type u optional) (child (branch k ds))) (folded_fields (fields k) ds) (plain_item u optional (child (branch k ds))) run.folded;
       forward = omega arith;
       within = run.within;
     }
@@ -167,6 +186,8 @@ absent_found r u optional d w at m sound order small e =
       fits = fits_absent u optional st.1;
       depth = omega arith;
       stands = refl;
+      has_all = and_true (has_atom r.tables (atom.kind Null)) true st.2 refl;
+      folded = and_true (is_folded (item_type u optional) absent) true (plain_item u optional absent) refl;
       forward = mv.forward;
       within = mv.within;
     }
@@ -247,6 +268,36 @@ item_spelled s h u true (choice n) e = cc
 item_spelled s h u false (choice n) e = cc
 item_spelled s h u holes (window from to) e = refl
 
+pub item_atoms : (h : Held) (u : Union) (holes : Bool) (d : Datum) → fits (item_type u holes) d ≡ true → atoms_of h (field.Optional Body) d ≡ atoms_of h (item_type u holes) d
+item_atoms h u holes (child t) e = refl
+item_atoms h u holes absent e = refl
+item_atoms h u holes (listed ds) e = refl
+item_atoms h u holes (flag b) e = refl
+item_atoms h u holes (index n) e = refl
+item_atoms h u holes (whole n) e = refl
+item_atoms h u holes (name n) e = refl
+item_atoms h u holes no_name e = refl
+item_atoms h u true (choice n) e = cc
+item_atoms h u false (choice n) e = cc
+item_atoms h u holes (window from to) e = refl
+
+pub times_atoms : (h : Held) (n : ℕ) (u : Union) (holes : Bool) (vs : Data) → fit (times n (item_type u holes)) vs ≡ true → atoms_of_fields h (times n (item_type u holes)) vs ≡ atoms_of_items h vs
+times_atoms h zero u holes none e = refl
+times_atoms h zero u holes (more v vs) e = cc
+times_atoms h (suc n) u holes none e = cc
+times_atoms h (suc n) u holes (more v vs) e =
+    let ok = and_first (fits (item_type u holes) v) (fit (times n (item_type u holes)) vs) e in
+    ap (λ (z : List Atom). z ++ atoms_of_fields h (times n (item_type u holes)) vs) (sym (item_atoms h u holes v ok))
+    ∙ ap (λ (z : List Atom). atoms_of h (field.Optional Body) v ++ z) (times_atoms h n u holes vs (and_second (fits (item_type u holes) v) (fit (times n (item_type u holes)) vs) e))
+
+pub times_folded : (n : ℕ) (t : FieldType) (vs : Data) → fit (times n t) vs ≡ true → folded_fields (times n t) vs ≡ true → folded_items vs ≡ true
+times_folded zero t none f e = refl
+times_folded zero t (more v vs) f e = cc
+times_folded (suc n) t none f e = cc
+times_folded (suc n) t (more v vs) f e =
+    let rest = and_second (is_folded t v) (folded_at v && folded_fields (times n t) vs) e in
+    and_true (folded_at v) (folded_items vs) (and_first (folded_at v) (folded_fields (times n t) vs) rest) (times_folded n t vs (and_second (fits t v) (fit (times n t) vs) f) (and_second (folded_at v) (folded_fields (times n t) vs) rest))
+
 both_items : (s : Tables) (h : Held) (u : Union) (holes : Bool) (d : Datum) (xs ys : List ℕ) → fits (item_type u holes) d ≡ true → xs ≡ ys → framed (item_type u holes) (spelled_at s h (item_type u holes) d) ++ xs ≡ spelled_at s h (field.Optional Body) d ++ ys
 both_items s h u holes d xs ys e is = ap (λ (b : List ℕ). b ++ xs) (framed_item u holes (spelled_at s h (item_type u holes) d) ∙ item_spelled s h u holes d e) ∙ ap (λ (b : List ℕ). spelled_at s h (field.Optional Body) d ++ b) is
 
@@ -261,13 +312,13 @@ both_fit : (a b c : Bool) → (a && b) ≡ true → (b ≡ true → c ≡ true) 
 both_fit true b c e f = f e
 both_fit false b c e f = cc
 
-items_fit_times : (n : ℕ) (u : Union) (holes : Bool) (ds : Data) → fit (times n (item_type u holes)) ds ≡ true → items_fit u holes ds ≡ true
+pub items_fit_times : (n : ℕ) (u : Union) (holes : Bool) (ds : Data) → fit (times n (item_type u holes)) ds ≡ true → items_fit u holes ds ≡ true
 items_fit_times zero u holes none e = refl
 items_fit_times zero u holes (more d ds) e = cc
 items_fit_times (suc n) u holes none e = cc
 items_fit_times (suc n) u holes (more d ds) e = both_fit (fits (item_type u holes) d) (fit (times n (item_type u holes)) ds) (items_fit u holes ds) e (items_fit_times n u holes ds)
 
-length_times : (n : ℕ) (t : FieldType) → length (times n t) ≡ n
+pub length_times : (n : ℕ) (t : FieldType) → length (times n t) ≡ n
 length_times zero t = refl
 length_times (suc n) t = ap suc (length_times n t)
 
@@ -308,6 +359,8 @@ list_found r u holes filled d w at n m ds next sound order e run =
       fits = rw (list_fits filled n (item_type u holes) ds st.enough run.fits, items_fit_times n u holes ds run.fits) refl;
       depth = run.depth;
       stands = run.stands;
+      has_all = ap (list_all (has_atom r.tables)) (sym (times_atoms (held r) n u holes ds run.fits)) ∙ run.has_all;
+      folded = times_folded n (item_type u holes) ds run.fits run.folded;
       forward = omega arith;
       within = run.within;
     }

@@ -1,6 +1,6 @@
 -- Two trees that are spelled alike have the same atoms.
-use Rattle.std.proofs.Common.{ℕ, zero, suc, ◌+◌, ◌^◌, ◌<◌, ◌≤◌, ◌≡◌, Bool, true, false, not, ◌&&◌, ◌||◌, cond, ltb, List, [], ◌∷◌, ◌++◌, length, take, drop, get_or, Option, Some, None, refl, sym, ap, subst, ◌∙◌, arith, append_assoc, append-nil, slice_get}
-use Rattle.std.specs.List.{list_all, list_any}
+use Rattle.std.proofs.Common.{ℕ, suc, ◌^◌, ◌<◌, ◌≡◌, Bool, true, false, not, ◌||◌, List, [], ◌∷◌, ◌++◌, length, take, drop, Option, Some, None, refl, sym, ap, subst, ◌∙◌, arith, append_assoc, append-nil, slice_get}
+use Rattle.std.specs.List.{list_all}
 use Rattle.std.specs.Option.{unwrap_or}
 use Rattle.std.specs.Int.{w64, from_be_bytes, to_be_bytes}
 use Rattle.std.proofs.lemmas.Bool.{ltb-true}
@@ -20,7 +20,7 @@ use Rattle.bast_schema.specs.Counts.{is_whole, is_whole_at, is_whole_in}
 use Rattle.bast_schema.specs.Fields.{fields}
 use Rattle.bast_schema.specs.Held.{Held, text_of}
 use Rattle.bast_schema.specs.Kinds.{same_kind}
-use Rattle.bast_schema.specs.Tree.{Tree, branch, Datum, child, absent, listed, flag, index, whole, name, no_name, choice, window, Data, none, more, fits, fit, items_fit, item_type, is_none, count, typed, kind_of}
+use Rattle.bast_schema.specs.Tree.{Tree, branch, Datum, child, absent, listed, flag, index, whole, name, no_name, choice, Data, none, more, fits, fit, items_fit, item_type, is_none, count, typed}
 use Rattle.bast_schema.specs.Unions.{allowed}
 use Rattle.bast_schema.proofs.Both.{and_first, and_second}
 use Rattle.bast_schema.proofs.Distinct.{kind_at_place}
@@ -32,8 +32,8 @@ use Rattle.container.specs.Atoms.{Atom, kind, text, chosen, atoms, atoms_of, ato
 use Rattle.container.specs.InFile.{has_atom}
 use Rattle.container.specs.Spelled.{framed, spelled, spelled_at, spelled_items, spelled_fields}
 use Rattle.container.specs.Tables.{Tables, kind_place, text_place}
-use Rattle.tree_decoder.proofs.Accepts.{any_place, pattern_small, item_atoms, first_atom, other_atoms, front_atoms, back_atoms}
-use Rattle.tree_decoder.proofs.Nodes.{framed_item, item_spelled}
+use Rattle.tree_decoder.proofs.Accepts.{any_place, pattern_small, first_atom, other_atoms, front_atoms, back_atoms}
+use Rattle.tree_decoder.proofs.Nodes.{framed_item, item_atoms, item_spelled}
 
 pub record Same (a b : List Atom) (x y : List ℕ) : Type 0 where
   pub atoms : a ≡ b

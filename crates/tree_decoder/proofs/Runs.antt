@@ -1,17 +1,22 @@
 -- What is read, value after value.
-use Rattle.std.proofs.Common.{ℕ, zero, suc, ◌+◌, ◌-◌, ◌*◌, ◌^◌, ◌<◌, ◌≤◌, ◌≡◌, max, Bool, true, false, not, ◌&&◌, ◌||◌, cond, ltb, eqb, List, [], ◌∷◌, ◌++◌, length, take, drop, get_or, map, Option, Some, None, Result, Ok, Err, refl, sym, ap, subst, ◌∙◌, arith, append_assoc, append-nil, drop-cons, add-one, zero-add}
+use Rattle.std.proofs.Common.{ℕ, zero, suc, ◌+◌, ◌-◌, ◌<◌, ◌≤◌, ◌≡◌, Bool, true, false, ◌&&◌, List, [], ◌∷◌, ◌++◌, length, take, drop, get_or, refl, sym, ap, subst, ◌∙◌, arith, append_assoc, append-nil, drop-cons, add-one, zero-add}
+use Rattle.std.specs.List.{list_all}
 use Rattle.std.proofs.lemmas.List.{take-append-drop}
-use Rattle.bast_base.specs.declared.errors.FormatFault.{FormatFault}
+use Rattle.std.proofs.lemmas.List.Folds.{list_all-append}
 use Rattle.bast_base.specs.declared.errors.Halt.{Halt}
 use Rattle.bast_base.specs.declared.errors.Halt.TheVariants.{Memory, Format}
 use Rattle.bast_schema.specs.declared.kind.FieldType.{FieldType}
 use Rattle.bast_schema.specs.declared.node.Value.{Value}
-use Rattle.bast_schema.specs.Tree.{Datum, Data, none, more, fits, fit, depth_at, depth_in}
+use Rattle.bast_schema.specs.Held.{Held}
+use Rattle.bast_schema.specs.Tree.{Data, none, fits, fit, depth_at, depth_in}
 use Rattle.bast_schema.specs.View.{datum, data_of}
 use Rattle.bast_schema.proofs.Both.{and_first, and_second}
+use Rattle.container.specs.Atoms.{atoms_of, atoms_of_fields}
+use Rattle.container.specs.InFile.{has_atom}
 use Rattle.container.specs.Spelled.{framed, spelled_at, spelled_fields}
 use Rattle.tree_decoder.specs.Dues.{Due, due, dues, times}
 use Rattle.tree_decoder.specs.Found.{Found, Run, Fails, Spent, SpentFails, stands_at, all_stand}
+use Rattle.tree_decoder.specs.Left.{is_folded, folded_at, folded_fields}
 use Rattle.tree_decoder.specs.Outcome.{Outcome, behind, outcome_from}
 use Rattle.tree_decoder.specs.Range.{Range, IsSound, held, left}
 use Rattle.tree_decoder.specs.Windows.{windows_at, windows_in, skipped}
@@ -46,6 +51,34 @@ stand_more : (r : Range) (vs : List Value) (v : Value) → all_stand r (data_of 
 stand_more r [] v e f = rw f refl
 stand_more r (x ∷ vs) v e f = and_both (stands_at r (datum x)) (all_stand r (data_of vs)) (all_stand r (data_of (vs ++ v ∷ []))) e (λ h. stand_more r vs v h f)
 
+atoms_more : (h : Held) (ts : List FieldType) (t : FieldType) (vs : List Value) (v : Value) → fit ts (data_of vs) ≡ true → atoms_of_fields h (ts ++ t ∷ []) (data_of (vs ++ v ∷ [])) ≡ atoms_of_fields h ts (data_of vs) ++ atoms_of h t (datum v)
+atoms_more h [] t [] v e = append-nil (atoms_of h t (datum v))
+atoms_more h [] t (x ∷ vs) v e = cc
+atoms_more h (u ∷ ts) t [] v e = cc
+atoms_more h (u ∷ ts) t (x ∷ vs) v e =
+    ap (λ b. atoms_of h u (datum x) ++ b) (atoms_more h ts t vs v (and_second (fits u (datum x)) (fit ts (data_of vs)) e))
+    ∙ sym (append_assoc (atoms_of h u (datum x)) (atoms_of_fields h ts (data_of vs)) (atoms_of h t (datum v)))
+
+both_true : (a b : Bool) → a ≡ true → b ≡ true → (a && b) ≡ true
+both_true true b p q = q
+both_true false b p q = cc
+
+has_more : (r : Range) (ts : List FieldType) (t : FieldType) (vs : List Value) (v : Value) → fit ts (data_of vs) ≡ true → list_all (has_atom r.tables) (atoms_of_fields (held r) ts (data_of vs)) ≡ true → list_all (has_atom r.tables) (atoms_of (held r) t (datum v)) ≡ true → list_all (has_atom r.tables) (atoms_of_fields (held r) (ts ++ t ∷ []) (data_of (vs ++ v ∷ []))) ≡ true
+has_more r ts t vs v fit_ok front last =
+    ap (list_all (has_atom r.tables)) (atoms_more (held r) ts t vs v fit_ok)
+    ∙ list_all-append (has_atom r.tables) (atoms_of_fields (held r) ts (data_of vs)) (atoms_of (held r) t (datum v))
+    ∙ both_true _ _ front last
+
+folded_more : (ts : List FieldType) (t : FieldType) (vs : List Value) (v : Value) → fit ts (data_of vs) ≡ true → folded_fields ts (data_of vs) ≡ true → (is_folded t (datum v) && folded_at (datum v)) ≡ true → folded_fields (ts ++ t ∷ []) (data_of (vs ++ v ∷ [])) ≡ true
+folded_more [] t [] v fit_ok e f = both_true (is_folded t (datum v)) (folded_at (datum v) && true) (and_first (is_folded t (datum v)) (folded_at (datum v)) f) (both_true (folded_at (datum v)) true (and_second (is_folded t (datum v)) (folded_at (datum v)) f) refl)
+folded_more [] t (x ∷ vs) v fit_ok e f = cc
+folded_more (u ∷ ts) t [] v fit_ok e f = cc
+folded_more (u ∷ ts) t (x ∷ vs) v fit_ok e f =
+    let rest = and_second (is_folded u (datum x)) (folded_at (datum x) && folded_fields ts (data_of vs)) e in
+    both_true (is_folded u (datum x)) (folded_at (datum x) && folded_fields (ts ++ t ∷ []) (data_of (vs ++ v ∷ []))) (and_first (is_folded u (datum x)) (folded_at (datum x) && folded_fields ts (data_of vs)) e)
+    (both_true (folded_at (datum x)) (folded_fields (ts ++ t ∷ []) (data_of (vs ++ v ∷ []))) (and_first (folded_at (datum x)) (folded_fields ts (data_of vs)) rest)
+    (folded_more ts t vs v (and_second (fits u (datum x)) (fit ts (data_of vs)) fit_ok) (and_second (folded_at (datum x)) (folded_fields ts (data_of vs)) rest) f))
+
 depth_more : (d : ℕ) (vs : List Value) (v : Value) → depth_in (data_of vs) + d ≤ 513 → depth_at (datum v) + d ≤ 513 → depth_in (data_of (vs ++ v ∷ [])) + d ≤ 513
 depth_more d [] v h k = omega arith
 depth_more d (x ∷ vs) v h k = let i : depth_in (data_of (vs ++ v ∷ [])) + d ≤ 513 = depth_more d vs v (omega arith) k in omega arith
@@ -55,7 +88,7 @@ windows_more [] v = append-nil (windows_at (datum v))
 windows_more (x ∷ vs) v = ap (λ ws. windows_at (datum x) ++ ws) (windows_more vs v) ∙ sym (append_assoc (windows_at (datum x)) (windows_in (data_of vs)) (windows_at (datum v)))
 
 pub run_none : (r : Range) (d : ℕ) (w : Bool) (at : ℕ) → d ≤ 513 → at ≤ r.end → Run r [] d w at none at
-run_none r d w at h k = record { goes_on = λ ds. refl; spelled = refl; fits = refl; depth = omega arith; stands = refl; forward = omega arith; within = k }
+run_none r d w at h k = record { goes_on = λ ds. refl; spelled = refl; fits = refl; depth = omega arith; stands = refl; has_all = refl; folded = refl; forward = omega arith; within = k }
 
 pub run_more : (r : Range) (ts : List FieldType) (t : FieldType) (d : ℕ) (w : Bool) (a b c : ℕ) (vs : List Value) (v : Value) → Run r ts d w a (data_of vs) b → Found r t d w b (datum v) c → Run r (ts ++ t ∷ []) d w a (data_of (vs ++ v ∷ [])) c
 run_more r ts t d w a b c vs v run f =
@@ -75,6 +108,8 @@ run_more r ts t d w a b c vs v run f =
       fits = fit_more ts t vs v run.fits f.fits;
       depth = depth_more d vs v run.depth f.depth;
       stands = stand_more r vs v run.stands f.stands;
+      has_all = has_more r ts t vs v run.fits run.has_all f.has_all;
+      folded = folded_more ts t vs v run.fits run.folded f.folded;
       forward = omega arith;
       within = f.within;
     }

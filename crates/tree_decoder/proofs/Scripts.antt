@@ -1,5 +1,5 @@
 -- A script is read from all of the bytes.
-use Rattle.std.proofs.Common.{ℕ, zero, suc, ◌+◌, ◌-◌, ◌<◌, ◌≤◌, ◌≡◌, Bool, true, false, List, [], ◌∷◌, ◌++◌, length, take, drop, Option, Some, None, Result, Ok, Err, ◌&&◌, refl, sym, ap, subst, ◌∙◌, arith, append-nil}
+use Rattle.std.proofs.Common.{ℕ, ◌+◌, ◌-◌, ◌<◌, ◌≤◌, ◌≡◌, true, false, List, [], ◌∷◌, ◌++◌, length, take, drop, Some, None, Result, Ok, Err, ◌&&◌, refl, sym, ap, subst, ◌∙◌, arith, append-nil}
 use Rattle.bast_base.specs.declared.errors.Halt.{Halt}
 use Rattle.bast_base.specs.declared.errors.Halt.TheVariants.{Memory, Format}
 use Rattle.bast_base.specs.declared.errors.Why.TheVariants.{Trailing}
@@ -14,7 +14,7 @@ use Rattle.container.specs.Spelled.{spelled}
 use Rattle.tree_decoder.specs.Dues.{due}
 use Rattle.tree_decoder.specs.Found.{Found, Fails, Spent}
 use Rattle.tree_decoder.specs.Numbers.{fault}
-use Rattle.tree_decoder.specs.Outcome.{Outcome, ends, behind, outcome_from}
+use Rattle.tree_decoder.specs.Outcome.{Outcome, behind, outcome_from}
 use Rattle.tree_decoder.specs.Range.{Range, IsSound, held, left}
 use Rattle.tree_decoder.specs.Script.{IsScript, ReadsScript, script, script_outcome}
 use Rattle.tree_decoder.specs.Spelt.{IsSpelt, NoFault}
@@ -37,6 +37,8 @@ script_stands r at t next f le =
       typed = and_second (allowed (One Script) (kind_of t)) (typed t) f.fits;
       shallow = omega arith;
       stands = f.stands;
+      has_all = f.has_all;
+      folded = f.folded;
       outcome = f.goes_on [] ∙ ap (behind (windows t)) (all_read r next le) ∙ ap as_outcome no_more;
     }
 

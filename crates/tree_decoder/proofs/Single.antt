@@ -1,6 +1,6 @@
 -- A value with no parts is spelled by the bytes that it was read from.
-use Rattle.std.proofs.Common.{ℕ, zero, suc, ◌+◌, ◌-◌, ◌^◌, ◌<◌, ◌≤◌, ◌≡◌, Bool, true, false, cond, ltb, eqb, ◌&&◌, List, [], ◌∷◌, ◌++◌, length, take, drop, get_or, Option, Some, None, Result, Ok, Err, refl, sym, ap, subst, ◌∙◌, arith, append_assoc, drop-cons, slice_get, slice_index, slice_range, inl, inr}
-use Rattle.std.specs.List.{All}
+use Rattle.std.proofs.Common.{ℕ, zero, suc, ◌+◌, ◌-◌, ◌^◌, ◌<◌, ◌≤◌, ◌≡◌, Bool, true, false, cond, ltb, eqb, ◌&&◌, ◌||◌, List, [], ◌∷◌, ◌++◌, length, take, drop, get_or, Option, Some, None, Result, Ok, Err, refl, sym, ap, subst, ◌∙◌, arith, append_assoc, drop-cons, slice_get, slice_index, slice_range, inl, inr}
+use Rattle.std.specs.List.{All, list_all, list_any}
 use Rattle.std.specs.Option.{unwrap_or}
 use Rattle.std.specs.Int.{w64, from_be_bytes, to_be_bytes}
 use Rattle.std.proofs.lemmas.Bool.{ltb-false, ltb-true, lt-ltb, eqb-true, cases_lt}
@@ -12,9 +12,8 @@ use Rattle.std.proofs.lemmas.Nat.{be_bytes_8}
 use Rattle.std.proofs.lemmas.Option.{get_or_from_slice_get, slice_get_within}
 use Rattle.bast_base.specs.declared.errors.FormatFault.{FormatFault}
 use Rattle.bast_base.specs.declared.errors.Halt.TheVariants.{Format}
-use Rattle.bast_base.specs.declared.errors.Why.TheVariants.{Ended, BadVariant, BadBool, BadWhole}
+use Rattle.bast_base.specs.declared.errors.Why.TheVariants.{Ended, BadBool}
 use Rattle.var_numbers.specs.Pattern.{pattern}
-use Rattle.var_numbers.specs.ReadClauses.{Spells}
 use Rattle.var_numbers.specs.Varnum.{varnum}
 use Rattle.var_numbers.proofs.RangeLemmas.{range-length}
 use Rattle.bast_schema.specs.declared.kind.EnumId.{EnumId}
@@ -25,32 +24,56 @@ use Rattle.bast_schema.specs.Choices.{choice_texts, choice_of_text}
 use Rattle.bast_schema.specs.Held.{text_of, bytes_of}
 use Rattle.bast_schema.specs.Tree.{Datum, flag, index, whole, name, no_name, choice, window, fits, depth_at}
 use Rattle.bast_schema.proofs.ChoiceTexts.{text_of_choice}
-use Rattle.string_table.specs.Entries.{place_in}
-use Rattle.string_table.proofs.Laws.{place_in-own}
-use Rattle.container.specs.Atoms.{chosen}
+use Rattle.string_table.specs.Entries.{is_same}
+use Rattle.string_table.proofs.Laws.{place_in-own, is_same-Decides}
+use Rattle.container.specs.Atoms.{Atom, text, chosen, atoms_of}
+use Rattle.container.specs.InFile.{has_atom}
 use Rattle.container.specs.Spelled.{framed, spelled_at}
-use Rattle.container.specs.Tables.{text_place}
-use Rattle.tree_decoder.specs.Dues.{Due, due, Taken, taken, atom_of}
+use Rattle.container.specs.Tables.{Tables, text_place}
+use Rattle.tree_decoder.specs.Dues.{Due, due, taken, atom_of}
 use Rattle.tree_decoder.specs.Found.{Found, Fails, SpentFails, Spent, stands_at, is_text}
 use Rattle.tree_decoder.specs.Numbers.{fault, ◌>>=◌, number_from, name_of, label_of, variant_of, choice_at, window_of, whole_with, whole_or, whole_at, flag_of, flag_at, numbered, leaf_at, is_leaf}
+use Rattle.tree_decoder.specs.Left.{is_folded, folded_at}
 use Rattle.tree_decoder.specs.Outcome.{Outcome, outcome_from}
 use Rattle.tree_decoder.specs.Range.{Range, IsSound, held, left}
-use Rattle.tree_decoder.specs.Windows.{windows_at, skipped}
+use Rattle.tree_decoder.specs.Windows.{windows_at}
 use Rattle.tree_decoder.proofs.Machine.{from_step, from_fails}
 use Rattle.tree_decoder.proofs.Moves.{leaf_moves}
-use Rattle.tree_decoder.proofs.Spells.{bind_ok, guard_ok, chosen_ok, is_ok, ok_is, number_spells, range_split}
+use Rattle.tree_decoder.proofs.Spells.{bind_ok, guard_ok, is_ok, ok_is, number_spells, range_split}
 use Rattle.tree_decoder.proofs.Wholes.{whole_is}
+
+both_true : (a b : Bool) → a ≡ true → b ≡ true → (a && b) ≡ true
+both_true true b p q = q
+both_true false b p q = cc
+
+or_true : (a b : Bool) → b ≡ true → (a || b) ≡ true
+or_true true b e = refl
+or_true false b e = e
+
+pub any_at : {A : Type 0} (p : A → Bool) (xs : List A) (n : ℕ) (x : A) → slice_get xs n ≡ Some x → p x ≡ true → list_any p xs ≡ true
+any_at p [] n x is e = absurd cc
+any_at p (y ∷ ys) zero x is e = let same : y ≡ x = cc in ap (λ b. b || list_any p ys) (ap p same ∙ e)
+any_at p (y ∷ ys) (suc n) x is e = or_true (p y) (list_any p ys) (any_at p ys n x is e)
 
 pub record Stands (r : Range) (t : FieldType) (at : ℕ) (x : Datum × ℕ) : Type 0 where
   pub spelled : left r at ≡ framed t (spelled_at r.tables (held r) t x.0) ++ left r x.1
   pub fits : fits t x.0 ≡ true
   pub flat : depth_at x.0 ≡ 0
   pub stands : stands_at r x.0 ≡ true
+  pub has_all : list_all (has_atom r.tables) (atoms_of (held r) t x.0) ≡ true
+  pub folded : (is_folded t x.0 && folded_at x.0) ≡ true
 
-made : (r : Range) (t : FieldType) (at : ℕ) (v : Datum) (next : ℕ) (x : Datum × ℕ) → (v, next) ≡ x → left r at ≡ framed t (spelled_at r.tables (held r) t v) ++ left r next → fits t v ≡ true → depth_at v ≡ 0 → stands_at r v ≡ true → Stands r t at x
-made r t at v next x e sp f g st = subst (λ (y : Datum × ℕ). Stands r t at y) e (record { spelled = sp; fits = f; flat = g; stands = st })
+made : (r : Range) (t : FieldType) (at : ℕ) (v : Datum) (next : ℕ) (x : Datum × ℕ) → (v, next) ≡ x → left r at ≡ framed t (spelled_at r.tables (held r) t v) ++ left r next → fits t v ≡ true → depth_at v ≡ 0 → stands_at r v ≡ true → list_all (has_atom r.tables) (atoms_of (held r) t v) ≡ true → (is_folded t v && folded_at v) ≡ true → Stands r t at x
+made r t at v next x e sp f g st ha fo = subst (λ (y : Datum × ℕ). Stands r t at y) e (record { spelled = sp; fits = f; flat = g; stands = st; has_all = ha; folded = fo })
 
 -- ---- texts
+
+one_has : (s : Tables) (a : Atom) → has_atom s a ≡ true → list_all (has_atom s) (a ∷ []) ≡ true
+one_has s a e = both_true (has_atom s a) true e refl
+
+-- an entry stands in the table
+entry_has : (r : Range) (n : ℕ) (entry : Option (List ℕ)) → slice_get r.tables.texts n ≡ Some entry → has_atom r.tables (text entry) ≡ true
+entry_has r n entry is = any_at (is_same entry) r.tables.texts n entry is ((is_same-Decides entry entry).1 refl)
 
 -- an entry is spelled by its number
 entry_place : (r : Range) (n : ℕ) (entry : Option (List ℕ)) → IsSound r → slice_get r.tables.texts n ≡ Some entry → text_place r.tables entry ≡ n
@@ -62,32 +85,32 @@ entry_text r n entry is = get_or_from_slice_get r.tables.texts n entry None is
 spelled_as : (r : Range) (at m n next : ℕ) → m ≡ n → left r at ≡ varnum n ++ left r next → left r at ≡ varnum m ++ left r next
 spelled_as r at m n next same e = e ∙ ap (λ (k : ℕ). varnum k ++ left r next) (sym same)
 
-name_place : (r : Range) (n : ℕ) (text : List ℕ) → IsSound r → slice_get r.tables.texts n ≡ Some (Some text) → text_place r.tables (text_of (held r) n) ≡ n
-name_place r n text sound is = ap (text_place r.tables) (entry_text r n (Some text) is) ∙ entry_place r n (Some text) sound is
+name_place : (r : Range) (n : ℕ) (words : List ℕ) → IsSound r → slice_get r.tables.texts n ≡ Some (Some words) → text_place r.tables (text_of (held r) n) ≡ n
+name_place r n words sound is = ap (text_place r.tables) (entry_text r n (Some words) is) ∙ entry_place r n (Some words) sound is
 
-name_stands : (r : Range) (t : FieldType) (at n next : ℕ) (o : Option (Option (List ℕ))) (x : Datum × ℕ) → IsSound r → slice_get r.tables.texts n ≡ o → left r at ≡ varnum n ++ left r next → ((m : ℕ) → fits t (name m) ≡ true) → ((bytes : List ℕ) → framed t bytes ≡ bytes) → name_of at n next o ≡ Ok x → Stands r t at x
-name_stands r t at n next (Some (Some text)) x sound is sp fit plain e =
-    made r t at (name n) next x (ok_is _ _ e) (spelled_as r at _ n next (name_place r n text sound is) sp ∙ ap (λ (b : List ℕ). b ++ left r next) (sym (plain (varnum (text_place r.tables (text_of (held r) n)))))) (fit n) refl (ap is_text is)
-name_stands r t at n next (Some None) x sound is sp fit plain e = absurd cc
-name_stands r t at n next None x sound is sp fit plain e = absurd cc
+name_stands : (r : Range) (t : FieldType) (at n next : ℕ) (o : Option (Option (List ℕ))) (x : Datum × ℕ) → IsSound r → slice_get r.tables.texts n ≡ o → left r at ≡ varnum n ++ left r next → ((m : ℕ) → fits t (name m) ≡ true) → ((m : ℕ) → is_folded t (name m) ≡ true) → ((bytes : List ℕ) → framed t bytes ≡ bytes) → name_of at n next o ≡ Ok x → Stands r t at x
+name_stands r t at n next (Some (Some words)) x sound is sp fit fold plain e =
+    made r t at (name n) next x (ok_is _ _ e) (spelled_as r at _ n next (name_place r n words sound is) sp ∙ ap (λ (b : List ℕ). b ++ left r next) (sym (plain (varnum (text_place r.tables (text_of (held r) n)))))) (fit n) refl (ap is_text is) (one_has r.tables (text (text_of (held r) n)) (ap (λ (o : Option (List ℕ)). has_atom r.tables (text o)) (entry_text r n (Some words) is) ∙ entry_has r n (Some words) is)) (both_true _ true (fold n) refl)
+name_stands r t at n next (Some None) x sound is sp fit fold plain e = absurd cc
+name_stands r t at n next None x sound is sp fit fold plain e = absurd cc
 
 label_stands : (r : Range) (at n next : ℕ) (o : Option (Option (List ℕ))) (x : Datum × ℕ) → IsSound r → slice_get r.tables.texts n ≡ o → left r at ≡ varnum n ++ left r next → label_of at n next o ≡ Ok x → Stands r field.Label at x
-label_stands r at n next (Some (Some text)) x sound is sp e =
-    made r field.Label at (name n) next x (ok_is _ _ e) (spelled_as r at _ n next (name_place r n text sound is) sp) refl refl (ap is_text is)
+label_stands r at n next (Some (Some words)) x sound is sp e =
+    made r field.Label at (name n) next x (ok_is _ _ e) (spelled_as r at _ n next (name_place r n words sound is) sp) refl refl (ap is_text is) (one_has r.tables (text (text_of (held r) n)) (ap (λ (o : Option (List ℕ)). has_atom r.tables (text o)) (entry_text r n (Some words) is) ∙ entry_has r n (Some words) is)) refl
 label_stands r at n next (Some None) x sound is sp e =
-    made r field.Label at no_name next x (ok_is _ _ e) (spelled_as r at _ n next (entry_place r n None sound is) sp) refl refl refl
+    made r field.Label at no_name next x (ok_is _ _ e) (spelled_as r at _ n next (entry_place r n None sound is) sp) refl refl refl (one_has r.tables (text None) (entry_has r n None is)) refl
 label_stands r at n next None x sound is sp e = absurd cc
 
-variant_stands : (r : Range) (set : EnumId) (at n next : ℕ) (text : List ℕ) (o : Option ℕ) (x : Datum × ℕ) → IsSound r → slice_get r.tables.texts n ≡ Some (Some text) → choice_of_text set text ≡ o → left r at ≡ varnum n ++ left r next → variant_of at next o ≡ Ok x → Stands r (field.Choice set) at x
-variant_stands r set at n next text (Some c) x sound is found sp e =
-    let there : slice_get (choice_texts set) c ≡ Some text = text_of_choice set text c found in
-    let same : chosen (field.Choice set) c ≡ Some text = ap Some (get_or_from_slice_get (choice_texts set) c text [] there) in
-    let place : text_place r.tables (chosen (field.Choice set) c) ≡ n = ap (text_place r.tables) same ∙ entry_place r n (Some text) sound is in
-    made r (field.Choice set) at (choice c) next x (ok_is _ _ e) (spelled_as r at _ n next place sp) (lt-ltb _ _ (slice_get_within (choice_texts set) c text there)) refl refl
-variant_stands r set at n next text None x sound is found sp e = absurd cc
+variant_stands : (r : Range) (set : EnumId) (at n next : ℕ) (words : List ℕ) (o : Option ℕ) (x : Datum × ℕ) → IsSound r → slice_get r.tables.texts n ≡ Some (Some words) → choice_of_text set words ≡ o → left r at ≡ varnum n ++ left r next → variant_of at next o ≡ Ok x → Stands r (field.Choice set) at x
+variant_stands r set at n next words (Some c) x sound is found sp e =
+    let there : slice_get (choice_texts set) c ≡ Some words = text_of_choice set words c found in
+    let same : chosen (field.Choice set) c ≡ Some words = ap Some (get_or_from_slice_get (choice_texts set) c words [] there) in
+    let place : text_place r.tables (chosen (field.Choice set) c) ≡ n = ap (text_place r.tables) same ∙ entry_place r n (Some words) sound is in
+    made r (field.Choice set) at (choice c) next x (ok_is _ _ e) (spelled_as r at _ n next place sp) (lt-ltb _ _ (slice_get_within (choice_texts set) c words there)) refl refl (one_has r.tables (text (chosen (field.Choice set) c)) (ap (λ (o : Option (List ℕ)). has_atom r.tables (text o)) same ∙ entry_has r n (Some words) is)) refl
+variant_stands r set at n next words None x sound is found sp e = absurd cc
 
 choice_stands : (r : Range) (set : EnumId) (at n next : ℕ) (o : Option (Option (List ℕ))) (x : Datum × ℕ) → IsSound r → slice_get r.tables.texts n ≡ o → left r at ≡ varnum n ++ left r next → choice_at set at next o ≡ Ok x → Stands r (field.Choice set) at x
-choice_stands r set at n next (Some (Some text)) x sound is sp e = variant_stands r set at n next text (choice_of_text set text) x sound is refl sp e
+choice_stands r set at n next (Some (Some words)) x sound is sp e = variant_stands r set at n next words (choice_of_text set words) x sound is refl sp e
 choice_stands r set at n next (Some None) x sound is sp e = absurd cc
 choice_stands r set at n next None x sound is sp e = absurd cc
 
@@ -95,10 +118,6 @@ choice_stands r set at n next None x sound is sp e = absurd cc
 
 is_le : (m n : ℕ) → m ≤ n → nat_le m n ≡ true
 is_le m n h = grind (arith, nat_tests)
-
-both_true : (a b : Bool) → a ≡ true → b ≡ true → (a && b) ≡ true
-both_true true b p q = q
-both_true false b p q = cc
 
 window_spelled : (r : Range) (u : Union) (at n next : ℕ) → IsSound r → next + n ≤ r.end → left r at ≡ varnum n ++ left r next → left r at ≡ framed (field.Lazy u) (bytes_of (held r) next (next + n)) ++ left r (next + n)
 window_spelled r u at n next sound far e =
@@ -113,14 +132,14 @@ window_stands : (r : Range) (u : Union) (at n next : ℕ) (x : Datum × ℕ) →
 window_stands r u at n next x sound sp e =
     let g = guard_ok (ltb r.end (next + n)) (fault r.end Ended) (is_ok (window next (next + n), next + n)) x e in
     let far : next + n ≤ r.end = ltb-false _ _ g.0 in
-    made r (field.Lazy u) at (window next (next + n)) (next + n) x (ok_is _ _ g.1) (window_spelled r u at n next sound far sp) refl refl (both_true _ _ (is_le next (next + n) (omega arith)) (is_le (next + n) r.end far))
+    made r (field.Lazy u) at (window next (next + n)) (next + n) x (ok_is _ _ g.1) (window_spelled r u at n next sound far sp) refl refl (both_true _ _ (is_le next (next + n) (omega arith)) (is_le (next + n) r.end far)) refl refl
 
 -- ---- by a number
 
 numbered_stands : (r : Range) (t : FieldType) (at n next : ℕ) (x : Datum × ℕ) → IsSound r → left r at ≡ varnum n ++ left r next → n < 2 ^ 32 → numbered r t at n next ≡ Ok x → Stands r t at x
-numbered_stands r field.Index at n next x sound sp less e = made r field.Index at (index n) next x (ok_is _ _ e) sp (lt-ltb _ _ less) refl refl
-numbered_stands r field.Text at n next x sound sp less e = name_stands r field.Text at n next _ x sound refl sp (λ m. refl) (λ b. refl) e
-numbered_stands r field.Name at n next x sound sp less e = name_stands r field.Name at n next _ x sound refl sp (λ m. refl) (λ b. refl) e
+numbered_stands r field.Index at n next x sound sp less e = made r field.Index at (index n) next x (ok_is _ _ e) sp (lt-ltb _ _ less) refl refl refl refl
+numbered_stands r field.Text at n next x sound sp less e = name_stands r field.Text at n next _ x sound refl sp (λ m. refl) (λ m. refl) (λ b. refl) e
+numbered_stands r field.Name at n next x sound sp less e = name_stands r field.Name at n next _ x sound refl sp (λ m. refl) (λ m. refl) (λ b. refl) e
 numbered_stands r field.Label at n next x sound sp less e = label_stands r at n next _ x sound refl sp e
 numbered_stands r (field.Choice set) at n next x sound sp less e = choice_stands r set at n next _ x sound refl sp e
 numbered_stands r (field.Lazy u) at n next x sound sp less e = window_stands r u at n next x sound sp e
@@ -148,8 +167,8 @@ first_byte r at sound within =
     ∙ ap (λ (k : ℕ). slice_index r.tape at ∷ take (r.end - (at + 1)) (drop k r.tape)) next
 
 bool_stands : (r : Range) (at n : ℕ) (a b : Bool) (x : Datum × ℕ) → eqb n 0 ≡ a → eqb n 1 ≡ b → left r at ≡ n ∷ left r (at + 1) → cond a (is_ok (flag false, at + 1)) (cond b (is_ok (flag true, at + 1)) (Err (fault at BadBool))) ≡ Ok x → Stands r field.Bool at x
-bool_stands r at n true b x p q sp e = let z : n ≡ 0 = eqb-true _ _ p in made r field.Bool at (flag false) (at + 1) x (ok_is _ _ e) (sp ∙ ap (λ (k : ℕ). k ∷ left r (at + 1)) z) refl refl refl
-bool_stands r at n false true x p q sp e = let z : n ≡ 1 = eqb-true _ _ q in made r field.Bool at (flag true) (at + 1) x (ok_is _ _ e) (sp ∙ ap (λ (k : ℕ). k ∷ left r (at + 1)) z) refl refl refl
+bool_stands r at n true b x p q sp e = let z : n ≡ 0 = eqb-true _ _ p in made r field.Bool at (flag false) (at + 1) x (ok_is _ _ e) (sp ∙ ap (λ (k : ℕ). k ∷ left r (at + 1)) z) refl refl refl refl refl
+bool_stands r at n false true x p q sp e = let z : n ≡ 1 = eqb-true _ _ q in made r field.Bool at (flag true) (at + 1) x (ok_is _ _ e) (sp ∙ ap (λ (k : ℕ). k ∷ left r (at + 1)) z) refl refl refl refl refl
 bool_stands r at n false false x p q sp e = absurd cc
 
 before_end : (r : Range) (at : ℕ) (b : Bool) (x : Datum × ℕ) → cond b (flag_of at (slice_index r.tape at)) (Err (fault r.end Ended)) ≡ Ok x → (b ≡ true) × (flag_of at (slice_index r.tape at) ≡ Ok x)
@@ -181,7 +200,7 @@ eight_spelled r at n sound far is =
 whole_stands_of : (r : Range) (at : ℕ) (o : Option ℕ) (x : Datum × ℕ) → IsSound r → at + 8 ≤ r.end → whole_with (from_be_bytes w64 (slice_range r.tape at (at + 8))) ≡ o → whole_or at o ≡ Ok x → Stands r field.Whole at x
 whole_stands_of r at (Some n) x sound far is e =
     let w = whole_is (from_be_bytes w64 (slice_range r.tape at (at + 8))) n is in
-    made r field.Whole at (whole n) (at + 8) x (ok_is _ _ e) (eight_spelled r at n sound far w.1) (lt-ltb _ _ w.0) refl refl
+    made r field.Whole at (whole n) (at + 8) x (ok_is _ _ e) (eight_spelled r at n sound far w.1) (lt-ltb _ _ w.0) refl refl refl refl
 whole_stands_of r at None x sound far is e = absurd cc
 
 whole_stands : (r : Range) (at : ℕ) (x : Datum × ℕ) → IsSound r → whole_at r at ≡ Ok x → Stands r field.Whole at x
@@ -230,6 +249,8 @@ leaf_found r t d w at x sound order small leaf e =
       fits = st.fits;
       depth = omega arith;
       stands = st.stands;
+      has_all = st.has_all;
+      folded = st.folded;
       forward = mv.forward;
       within = mv.within;
     }

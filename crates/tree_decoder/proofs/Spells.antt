@@ -1,5 +1,5 @@
 -- A number that is read is spelled by the bytes that were passed.
-use Rattle.std.proofs.Common.{ℕ, zero, suc, ◌+◌, ◌-◌, ◌^◌, ◌<◌, ◌≤◌, ◌≡◌, Bool, true, false, cond, List, [], ◌∷◌, ◌++◌, length, take, drop, slice_range, Result, Ok, Err, refl, sym, ap, subst, ◌∙◌, arith, length-append}
+use Rattle.std.proofs.Common.{ℕ, ◌+◌, ◌-◌, ◌^◌, ◌<◌, ◌≤◌, ◌≡◌, Bool, true, false, cond, List, ◌++◌, length, take, drop, slice_range, Result, Ok, Err, refl, ap, subst, ◌∙◌, arith, length-append}
 use Rattle.std.specs.List.{All}
 use Rattle.std.proofs.Math.Seq.{take-add}
 use Rattle.std.proofs.lemmas.List.{drop-take, drop-drop}
@@ -7,7 +7,7 @@ use Rattle.std.proofs.lemmas.List.Elements.{All-take, All-drop}
 use Rattle.bast_base.specs.declared.errors.FormatFault.{FormatFault}
 use Rattle.var_numbers.specs.ReadClauses.{Spells}
 use Rattle.var_numbers.specs.Varnum.{varnum}
-use Rattle.var_numbers.specs.VarnumRead.{number_in, number_at, moved}
+use Rattle.var_numbers.specs.VarnumRead.{number_in, moved}
 use Rattle.var_numbers.proofs.InverseLemmas.{number_in-spelled}
 use Rattle.var_numbers.proofs.RangeLemmas.{range-length}
 use Rattle.var_numbers.proofs.VarnumLemmas.{varnum-nonempty}

@@ -1,7 +1,7 @@
 -- A value with no parts takes a step at most for each byte that it has outside a window.
-use Rattle.std.proofs.Common.{ℕ, ◌+◌, ◌-◌, ◌<◌, ◌≤◌, ◌≡◌, Bool, true, false, cond, ltb, List, [], Option, Some, None, Result, Ok, Err, refl, sym, ap, subst, ◌∙◌, arith}
+use Rattle.std.proofs.Common.{ℕ, ◌+◌, ◌-◌, ◌≤◌, ◌≡◌, ltb, List, [], Option, Some, None, Result, Ok, Err, refl, ap, subst, ◌∙◌, arith}
 use Rattle.bast_base.specs.declared.errors.FormatFault.{FormatFault}
-use Rattle.bast_base.specs.declared.errors.Why.TheVariants.{Ended, BadVariant}
+use Rattle.bast_base.specs.declared.errors.Why.TheVariants.{Ended}
 use Rattle.bast_schema.specs.declared.kind.FieldType.{FieldType}
 use Rattle.bast_schema.specs.declared.kind.FieldType.TheVariants as field
 use Rattle.bast_schema.specs.declared.node.Value.{Value}

@@ -1,13 +1,13 @@
 -- The whole number that eight bytes are the pattern of.
-use Rattle.std.proofs.Common.{ℕ, zero, suc, ◌+◌, ◌^◌, ◌<◌, ◌≤◌, ◌≡◌, Bool, true, false, cond, ltb, eqb, Option, Some, None, Ok, Err, refl, sym, ap, ◌∙◌, arith, slice_range, nat_eq}
+use Rattle.std.proofs.Common.{ℕ, zero, suc, ◌+◌, ◌^◌, ◌<◌, ◌≤◌, ◌≡◌, Bool, true, false, cond, ltb, eqb, Some, None, Ok, Err, refl, sym, ap, ◌∙◌, arith, slice_range}
 use Rattle.std.proofs.lemmas.Bool.{eqb-true, le-ltb}
 use Rattle.std.proofs.lemmas.Bool.Decides.{nat_tests}
 use Rattle.std.specs.Int.{from_be_bytes, w64}
-use Rattle.bast_base.specs.declared.errors.Why.TheVariants.{Ended, BadWhole}
+use Rattle.bast_base.specs.declared.errors.Why.TheVariants.{BadWhole}
 use Rattle.var_numbers.specs.Pattern.{pattern}
 use Rattle.var_numbers.proofs.PatternLemmas.{pattern-injective}
 use Rattle.bast_schema.specs.Tree.{whole}
-use Rattle.tree_decoder.specs.Numbers.{fault, passing_below, whole_with, whole_or, whole_at}
+use Rattle.tree_decoder.specs.Numbers.{fault, passing_below, whole_with, whole_at}
 use Rattle.tree_decoder.specs.Range.{Range}
 
 eqb_same : (m n : ℕ) → m ≡ n → eqb m n ≡ true

@@ -1,5 +1,6 @@
 -- What reading one value, or several, gives.
 use Rattle.std.specs.Prelude.{ℕ, Bool, true, false, List, [], ◌∷◌, ◌++◌, ◌+◌, ◌-◌, ◌&&◌, ◌<◌, ◌≤◌, ◌≡◌, nat_le, slice_get, Option, Some, None, Result, Ok, Err, Vec}
+use Rattle.std.specs.List.{list_all}
 use Rattle.std.specs.declared.alloc.Global.{Global}
 use Rattle.bast_base.specs.declared.errors.FormatFault.{FormatFault}
 use Rattle.bast_base.specs.declared.errors.Halt.{Halt}
@@ -8,9 +9,12 @@ use Rattle.bast_schema.specs.declared.kind.FieldType.{FieldType}
 use Rattle.bast_schema.specs.declared.node.Value.{Value}
 use Rattle.bast_schema.specs.Tree.{Tree, branch, Datum, child, listed, name, window, Data, none, more, fits, fit, depth_at, depth_in}
 use Rattle.bast_schema.specs.View.{datum, data_of}
+use Rattle.container.specs.Atoms.{atoms_of, atoms_of_fields}
+use Rattle.container.specs.InFile.{has_atom}
 use Rattle.container.specs.Spelled.{framed, spelled_at, spelled_fields}
 use Rattle.tree_decoder.specs.Dues.{Due, due, dues}
-use Rattle.tree_decoder.specs.Outcome.{Outcome, behind, outcome_from}
+use Rattle.tree_decoder.specs.Left.{is_folded, folded_at, folded_fields}
+use Rattle.tree_decoder.specs.Outcome.{behind, outcome_from}
 use Rattle.tree_decoder.specs.Range.{Range, held, left}
 use Rattle.tree_decoder.specs.Windows.{windows_at, windows_in, skipped}
 
@@ -42,6 +46,8 @@ pub record Found (r : Range) (t : FieldType) (d : ℕ) (w : Bool) (at : ℕ) (v 
   pub fits : fits t v ≡ true
   pub depth : depth_at v + d ≤ 513
   pub stands : stands_at r v ≡ true
+  pub has_all : list_all (has_atom r.tables) (atoms_of (held r) t v) ≡ true
+  pub folded : (is_folded t v && folded_at v) ≡ true
   pub forward : at < next
   pub within : next ≤ r.end
 
@@ -52,6 +58,8 @@ pub record Run (r : Range) (ts : List FieldType) (d : ℕ) (w : Bool) (at : ℕ)
   pub fits : fit ts vs ≡ true
   pub depth : depth_in vs + d ≤ 513
   pub stands : all_stand r vs ≡ true
+  pub has_all : list_all (has_atom r.tables) (atoms_of_fields (held r) ts vs) ≡ true
+  pub folded : folded_fields ts vs ≡ true
   pub forward : at ≤ next
   pub within : next ≤ r.end
 

@@ -76,3 +76,9 @@ abbrev pub AreDue : Type 0
 AreDue =
     (h : Held) (t : FieldType) (d : ℕ) (w : Bool) (v : Datum) → IsOfDue h t w v → (ds : List Due) (others : List Atom)
     → dues_left (due t d w ∷ ds) (atoms_of h t v ++ others) ≡ dues_left ds others
+
+-- atoms that leave nothing due are those of a value there, over some texts and bytes
+abbrev pub AreOfTree : Type 0
+AreOfTree =
+    (t : FieldType) (d : ℕ) (w : Bool) (xs : List Atom) → dues_left (due t d w ∷ []) xs ≡ Some []
+    → (h : Held) × (v : Datum) × IsOfDue h t w v × (atoms_of h t v ≡ xs)

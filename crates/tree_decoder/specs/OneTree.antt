@@ -1,10 +1,9 @@
 -- One spelling is that of one tree.
-use Rattle.std.specs.Prelude.{ℕ, ◌≡◌, IsTrue, List}
+use Rattle.std.specs.Prelude.{◌≡◌, IsTrue}
 use Rattle.std.specs.List.{list_all}
-use Rattle.bast_schema.specs.declared.kind.Kind.TheVariants.{Script}
 use Rattle.bast_schema.specs.Counts.{is_whole}
 use Rattle.bast_schema.specs.Held.{Held}
-use Rattle.bast_schema.specs.Tree.{Tree, typed, kind_of}
+use Rattle.bast_schema.specs.Tree.{Tree, typed}
 use Rattle.container.specs.Atoms.{atoms}
 use Rattle.container.specs.InFile.{has_atom}
 use Rattle.container.specs.Spelled.{spelled}

@@ -1,15 +1,16 @@
 -- Which trees are spelled by a range, whatever read them.
-use Rattle.std.specs.Prelude.{ℕ, Bool, true, ◌&&◌, ◌≤◌, ◌≡◌, List, Option, IsTrue, is_some, Result, Ok, Err}
+use Rattle.std.specs.Prelude.{ℕ, Bool, true, ◌&&◌, ◌≤◌, ◌≡◌, IsTrue, is_some, Result, Ok, Err}
 use Rattle.std.specs.List.{list_all}
 use Rattle.bast_base.specs.declared.errors.Halt.{Halt}
 use Rattle.bast_base.specs.declared.errors.Halt.TheVariants.{Memory, Format}
 use Rattle.bast_schema.specs.declared.kind.Kind.TheVariants.{Script}
+use Rattle.bast_schema.specs.Counts.{is_whole}
 use Rattle.bast_schema.specs.Held.{Held, text_of}
 use Rattle.bast_schema.specs.Tree.{Tree, branch, Datum, child, listed, name, Data, none, more, typed, depth, kind_of}
 use Rattle.container.specs.Atoms.{atoms}
 use Rattle.container.specs.InFile.{has_atom}
 use Rattle.container.specs.Spelled.{spelled}
-use Rattle.tree_decoder.specs.Range.{Range, left}
+use Rattle.tree_decoder.specs.Range.{Range, held, left}
 
 -- whether each name stands for a text
 abbrev mutual
@@ -40,3 +41,8 @@ abbrev pub NoFault : Result Tree Halt → Type 0
 NoFault (Ok t) = Unit {0}
 NoFault (Err Memory) = Unit {0}
 NoFault (Err (Format f)) = ⊥
+
+-- a whole tree that is read has the atoms of a whole tree that is spelled there
+abbrev pub IsThatTree : Range → Held → Tree → Result Tree Halt → Type 0
+IsThatTree r h u (Ok t) = IsTrue (is_whole u) → IsTrue (is_whole t) → atoms (held r) t ≡ atoms h u
+IsThatTree r h u (Err e) = Unit {0}

@@ -1,10 +1,16 @@
-ghost use Rattle.tree_decoder.specs.Left.{AreDue};
+ghost use Rattle.tree_decoder.specs.Left.{AreDue, AreOfTree};
 ghost use Rattle.tree_decoder.specs.OneTree.{IsOneTree};
 
 /// The atoms of each well-typed value whose lazy contents are windows are due one after another where the value is due,
 /// and after them nothing more of it is. It does nothing: its clause is the law.
 pub fn atoms_are_due()
     ensures { AreDue }
+{}
+
+/// Atoms that leave nothing due are those of a well-typed value of that due, whose lazy contents are windows. It does
+/// nothing: its clause is the law.
+pub fn only_trees_leave_nothing_due()
+    ensures { AreOfTree }
 {}
 
 /// Whole trees with one spelling over two tables have the same atoms: one tree is spelled. It does nothing: its clause is

@@ -9,6 +9,6 @@ mod reading;
 #[cfg(test)]
 mod tests;
 
-pub use laws::{atoms_are_due, one_tree_is_spelled};
+pub use laws::{atoms_are_due, one_tree_is_spelled, only_trees_leave_nothing_due};
 pub use outer::read_outer;
 pub use reading::read_tree;

@@ -5,7 +5,7 @@ ghost use Rattle.container.specs.IsContainer.{IsContainer};
 ghost use Rattle.tree_decoder.specs.Found.{Spent};
 ghost use Rattle.tree_decoder.specs.Outer.{tree_range};
 ghost use Rattle.tree_decoder.specs.Script.{ReadsScript, script_outcome};
-ghost use Rattle.tree_decoder.specs.Spelt.{IsSpelt, NoFault};
+ghost use Rattle.tree_decoder.specs.Spelt.{IsSpelt, IsThatTree, NoFault};
 
 use crate::reading::read_tree;
 use bast_base::{Halt, Steps, Tape};
@@ -25,6 +25,7 @@ pub fn read_outer<L>(
     requires { IsContainer tape.now layout.now }
     ensures reads { ReadsScript (tree_range tape.now layout.now) layout.now.from result }
     ensures only { (h : Held) (t : Tree) → IsSpelt (tree_range tape.now layout.now) layout.now.from h t → NoFault result }
+    ensures same { (h : Held) (t : Tree) → IsSpelt (tree_range tape.now layout.now) layout.now.from h t → IsThatTree (tree_range tape.now layout.now) h t result }
     ensures cost { Spent (script_outcome (tree_range tape.now layout.now) layout.now.from).windows layout.now.from layout.now.to steps.old steps.new }
     ensures later { steps.old ≤ steps.new }
 {

@@ -7,7 +7,7 @@ ghost use Rattle.tree_decoder.specs.Found.{Reads, ReadsAll, Spends, SpendsAll, S
 ghost use Rattle.tree_decoder.specs.Numbers.{is_leaf};
 ghost use Rattle.tree_decoder.specs.Range.{range, range_of, IsSound};
 ghost use Rattle.tree_decoder.specs.Script.{ReadsScript, script_outcome};
-ghost use Rattle.tree_decoder.specs.Spelt.{IsSpelt, NoFault};
+ghost use Rattle.tree_decoder.specs.Spelt.{IsSpelt, IsThatTree, NoFault};
 
 use crate::cursor::Input;
 use crate::leaves::{item_count, leaf, node_kind};
@@ -224,6 +224,7 @@ pub fn read_tree<L>(
     requires within { to ≤ length tape.now }
     ensures reads { ReadsScript (range kinds.now strings.now tape.now to) from result }
     ensures only { (h : Held) (t : Tree) → IsSpelt (range kinds.now strings.now tape.now to) from h t → NoFault result }
+    ensures same { (h : Held) (t : Tree) → IsSpelt (range kinds.now strings.now tape.now to) from h t → IsThatTree (range kinds.now strings.now tape.now to) h t result }
     ensures cost { Spent (script_outcome (range kinds.now strings.now tape.now to) from).windows from to steps.old steps.new }
     ensures later { steps.old ≤ steps.new }
 {
@@ -251,6 +252,7 @@ fn whole_script<L>(
     requires at { at ≤ input.now.end }
     ensures reads { ReadsScript (range_of input.now) at result }
     ensures only { (h : Held) (t : Tree) → IsSpelt (range_of input.now) at h t → NoFault result }
+    ensures same { (h : Held) (t : Tree) → IsSpelt (range_of input.now) at h t → IsThatTree (range_of input.now) h t result }
     ensures cost { Spent (script_outcome (range_of input.now) at).windows at input.now.end steps.old steps.new }
     ensures later { steps.old ≤ steps.new }
 {

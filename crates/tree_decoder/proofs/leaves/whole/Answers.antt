@@ -1,5 +1,4 @@
-use Rattle.std.proofs.Common.{◌≡◌, ◌+◌, ◌≤◌, ◌<◌, ◌^◌, ℕ, ltb, true, sym, ap, arith, rules, Some, None, refl, Option}
-use Rattle.std.proofs.lemmas.Bool.{lt-ltb}
+use Rattle.std.proofs.Common.{◌≡◌, ◌<◌, ◌^◌, ℕ, arith, rules}
 use Rattle.var_numbers.specs.Pattern.{pattern}
 use Rattle.tree_decoder.specs.Numbers.{whole_at}
 use Rattle.tree_decoder.specs.Range.{range_of}

@@ -1,4 +1,4 @@
-use Rattle.std.proofs.Common.{rules, arith, add-one, sym, subst, ap, ◌≡◌, ◌≤◌, ◌<◌, ◌+◌, ◌-◌, ◌*◌, ◌∷◌, ◌++◌, [], ℕ, List, length, Option, Some, None, Result, Ok, take, get_or}
+use Rattle.std.proofs.Common.{arith, add-one, sym, subst, ◌≡◌, ◌≤◌, ◌<◌, ℕ, List, Option, Some, None, Result, Ok}
 use Rattle.std.proofs.lemmas.List.{take_more}
 use Rattle.std.proofs.lemmas.Result.{err_from_is_err_and}
 use Rattle.bast_base.specs.declared.errors.FormatFault.{FormatFault}
@@ -9,16 +9,15 @@ use Rattle.bast_schema.specs.declared.kind.Union.TheVariants.{Body}
 use Rattle.bast_schema.specs.Fields.{fields}
 use Rattle.bast_schema.specs.Made.{node_of}
 use Rattle.bast_schema.specs.Tree.{Tree, branch, child, item_type}
-use Rattle.bast_schema.specs.View.{datum, data_of}
-use Rattle.tree_decoder.specs.Dues.{dues, times, below}
+use Rattle.bast_schema.specs.View.{data_of}
+use Rattle.tree_decoder.specs.Dues.{dues, times}
 use Rattle.tree_decoder.specs.Found.{Found, Run, Fails, Spent, SpentFails}
 use Rattle.tree_decoder.specs.Numbers.{kind_at}
 use Rattle.tree_decoder.specs.Range.{range_of}
-use Rattle.tree_decoder.specs.Windows.{windows, windows_at, windows_in}
+use Rattle.tree_decoder.specs.Windows.{windows, windows_in}
 use Rattle.tree_decoder.proofs.Moves.{kind_moves, count_moves}
 use Rattle.tree_decoder.proofs.Nodes.{kind_stands, node_found, absent_found, node_made, kind_fails, kind_spends, fields_fail, fields_spend, spent_node, count_fails, count_spends, items_fail, items_spend, list_found, below_bounds, node_is, no_fault}
 use Rattle.tree_decoder.proofs.Runs.{run_more, spent_more, fields_fail_at, fields_spend_at, fields_stop_at, items_fail_at, items_spend_at, items_stop_at, times_more}
-use Rattle.tree_decoder.proofs.reading.+read.Given as given
 use Rattle.tree_decoder.proofs.reading.+read.Goals as goal
 
 abbrev stands_as : Option Kind × ℕ → Result (Option Kind × ℕ) FormatFault

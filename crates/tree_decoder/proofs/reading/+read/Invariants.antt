@@ -1,4 +1,4 @@
-use Rattle.std.proofs.Common.{◌≡◌, ℕ, ◌+◌, ◌-◌, ◌*◌, ◌≤◌, take, length}
+use Rattle.std.proofs.Common.{◌+◌, ◌-◌, ◌*◌, ◌≤◌, take}
 use Rattle.bast_schema.specs.Tree.{item_type}
 use Rattle.bast_schema.specs.View.{data_of}
 use Rattle.tree_decoder.specs.Dues.{times}

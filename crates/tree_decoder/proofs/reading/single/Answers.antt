@@ -1,4 +1,3 @@
-use Rattle.std.proofs.Common.{sym}
 use Rattle.bast_schema.specs.View.{datum}
 use Rattle.tree_decoder.specs.Range.{range_of}
 use Rattle.tree_decoder.proofs.Single.{leaf_found, leaf_fails, leaf_spends}

@@ -1,4 +1,4 @@
-use Rattle.std.proofs.Common.{◌≡◌, subst, false, [], Ok, Err}
+use Rattle.std.proofs.Common.{subst, false, Ok, Err}
 use Rattle.std.proofs.lemmas.Result.{err_from_is_err_and}
 use Rattle.bast_base.specs.declared.errors.Halt.TheVariants.{Format}
 use Rattle.bast_base.specs.declared.errors.Why.TheVariants.{Trailing}
@@ -9,6 +9,7 @@ use Rattle.tree_decoder.specs.Numbers.{fault}
 use Rattle.tree_decoder.specs.Range.{range_of}
 use Rattle.tree_decoder.specs.Script.{script}
 use Rattle.tree_decoder.proofs.Scripts.{script_stands, bytes_left_over, script_spends, only_memory, only_failed}
+use Rattle.tree_decoder.proofs.Whole.{one_script}
 use Rattle.tree_decoder.proofs.reading.whole_script.Goals as goal
 
 pub returns-then-next-input-clause-reads : goal.returns-then-next-input-clause-reads
@@ -35,3 +36,6 @@ pub returns-in_err-found-clause-only : goal.returns-in_err-found-clause-only
 returns-in_err-found-clause-only g c h t spelt =
     let e = err_from_is_err_and c.from_residual.result c.from_residual.ensures.1 in
     rw (e.1, e.2) (only_failed (range_of c.args.input.now) c.args.at c.in_err-found.field-0.0 c.requires.sound c.requires.at c.in_err-found.ensures.reads h t spelt)
+
+pub returns-clause-same : goal.returns-clause-same
+returns-clause-same g c h t spelt whole_spelt whole_read = one_script (range_of c.args.input.now) c.args.at h c.in-Node.node t (returns-clause-reads g c) spelt whole_read whole_spelt

@@ -1,0 +1,110 @@
+-- What a script that was read is, for those who ask of whole trees.
+use Rattle.std.proofs.Common.{ℕ, ◌≡◌, Bool, true, false, not, ◌&&◌, ◌||◌, List, [], ◌∷◌, Option, Some, None, refl, sym, ap, ◌∙◌, slice_get}
+use Rattle.std.specs.Option.{is_some}
+use Rattle.std.proofs.lemmas.Option.{get_or_from_slice_get}
+use Rattle.bast_schema.specs.Counts.{is_whole, is_whole_at, is_whole_in}
+use Rattle.bast_schema.specs.Held.{Held, text_of}
+use Rattle.bast_schema.specs.Tree.{Tree, branch, Datum, child, absent, listed, flag, index, whole, name, no_name, choice, window, Data, none, more, typed, fits, fit, items_fit, item_type, is_none, kind_of}
+use Rattle.bast_schema.specs.Unions.{allowed}
+use Rattle.bast_schema.proofs.Both.{and_first, and_second}
+use Rattle.container.specs.Atoms.{atoms}
+use Rattle.container.specs.InFile.{is_unnested, is_unnested_at, are_unnested, are_unnested_fields}
+use Rattle.bast_schema.specs.declared.kind.FieldType.{FieldType}
+use Rattle.bast_schema.specs.declared.kind.FieldType.TheVariants as field
+use Rattle.bast_schema.specs.declared.kind.Union.{Union}
+use Rattle.bast_schema.specs.declared.kind.Union.TheVariants.{Body}
+use Rattle.bast_schema.specs.Fields.{fields}
+use Rattle.tree_decoder.specs.Left.{is_folded, folded, folded_at, folded_fields, folded_items}
+use Rattle.tree_decoder.specs.Found.{is_text, stands, stands_at, all_stand}
+use Rattle.tree_decoder.specs.Range.{Range, held}
+use Rattle.tree_decoder.specs.Script.{IsScript}
+use Rattle.tree_decoder.specs.Spelt.{IsSpelt, named, named_at, all_named}
+use Rattle.tree_decoder.proofs.Nodes.{and_true}
+use Rattle.tree_decoder.proofs.OneTree.{one_tree}
+
+some_text : (r : Range) (n : ℕ) (o : Option (Option (List ℕ))) → slice_get r.tables.texts n ≡ o → is_text o ≡ true → is_some (text_of (held r) n) ≡ true
+some_text r n (Some (Some words)) is e = ap is_some (get_or_from_slice_get r.tables.texts n (Some words) None is)
+some_text r n (Some None) is e = cc
+some_text r n None is e = cc
+
+-- names that are places of texts stand for texts
+mutual
+  pub named_where_stands : (r : Range) (t : Tree) → stands r t ≡ true → named (held r) t ≡ true
+  named_where_stands r (branch k ds) e = all_named_where_stand r ds e
+
+  named_at_where_stands : (r : Range) (d : Datum) → stands_at r d ≡ true → named_at (held r) d ≡ true
+  named_at_where_stands r (child t) e = named_where_stands r t e
+  named_at_where_stands r (listed ds) e = all_named_where_stand r ds e
+  named_at_where_stands r (name n) e = some_text r n (slice_get r.tables.texts n) refl e
+  named_at_where_stands r absent e = refl
+  named_at_where_stands r (flag b) e = refl
+  named_at_where_stands r (index n) e = refl
+  named_at_where_stands r (whole n) e = refl
+  named_at_where_stands r no_name e = refl
+  named_at_where_stands r (choice n) e = refl
+  named_at_where_stands r (window from to) e = refl
+
+  all_named_where_stand : (r : Range) (ds : Data) → all_stand r ds ≡ true → all_named (held r) ds ≡ true
+  all_named_where_stand r none e = refl
+  all_named_where_stand r (more d ds) e =
+      and_true (named_at (held r) d) (all_named (held r) ds) (named_at_where_stands r d (and_first (stands_at r d) (all_stand r ds) e)) (all_named_where_stand r ds (and_second (stands_at r d) (all_stand r ds) e))
+
+-- a whole script that is read is the one that is spelled there
+pub one_script : (r : Range) (at : ℕ) (h : Held) (t u : Tree) → IsScript r at t → IsSpelt r at h u → is_whole t ≡ true → is_whole u ≡ true → atoms (held r) t ≡ atoms h u
+one_script r at h t u read spelt whole_t whole_u =
+    one_tree r.tables (held r) h t u read.has_all spelt.has_all read.typed spelt.typed whole_t whole_u (sym read.spelled ∙ spelt.spelled)
+
+-- so is a script that is read twice, or spelled by itself
+pub spelt_by_itself : (r : Range) (at : ℕ) (t : Tree) → IsScript r at t → IsSpelt r at (held r) t
+spelt_by_itself r at t read = record { spelled = read.spelled; has_all = read.has_all; named = named_where_stands r t read.stands; kind = read.kind; typed = read.typed; shallow = read.shallow }
+
+-- ---- no lazy kind stands inside the contents of another, where there are no contents but windows and no windows
+
+mutual
+  pub unnested_tree : (t : Tree) → typed t ≡ true → folded t ≡ true → is_whole t ≡ true → is_unnested t ≡ true
+  unnested_tree (branch k ds) ok shut none_left = unnested_fields ds (fields k) ok shut none_left
+
+  unnested_at : (d : Datum) (t : FieldType) → fits t d ≡ true → is_folded t d ≡ true → folded_at d ≡ true → is_whole_at d ≡ true → is_unnested_at t d ≡ true
+  unnested_at (child c) (field.Node u) ok plain shut none_left = unnested_tree c (and_second (allowed u (kind_of c)) (typed c) ok) shut none_left
+  unnested_at (child c) (field.Optional u) ok plain shut none_left = unnested_tree c (and_second (allowed u (kind_of c)) (typed c) ok) shut none_left
+  unnested_at (child c) (field.Lazy u) ok plain shut none_left = absurd cc
+  unnested_at (window from to) (field.Lazy u) ok plain shut none_left = absurd cc
+  unnested_at absent (field.Optional u) ok plain shut none_left = refl
+  unnested_at (listed ds) (field.List u holes filled) ok plain shut none_left = unnested_items ds u holes (and_second (not filled || not (is_none ds)) (items_fit u holes ds) ok) shut none_left
+  unnested_at (flag b) field.Bool ok plain shut none_left = refl
+  unnested_at (index n) field.Index ok plain shut none_left = refl
+  unnested_at (whole n) field.Whole ok plain shut none_left = refl
+  unnested_at (name n) field.Text ok plain shut none_left = refl
+  unnested_at (name n) field.Name ok plain shut none_left = refl
+  unnested_at (name n) field.Label ok plain shut none_left = refl
+  unnested_at no_name field.Label ok plain shut none_left = refl
+  unnested_at (choice n) (field.Choice set) ok plain shut none_left = refl
+  unnested_at _ _ ok plain shut none_left = absurd cc
+
+  unnested_fields : (ds : Data) (ts : List FieldType) → fit ts ds ≡ true → folded_fields ts ds ≡ true → is_whole_in ds ≡ true → are_unnested_fields ts ds ≡ true
+  unnested_fields none [] ok shut none_left = refl
+  unnested_fields none (t ∷ ts) ok shut none_left = absurd cc
+  unnested_fields (more d ds) [] ok shut none_left = absurd cc
+  unnested_fields (more d ds) (t ∷ ts) ok shut none_left =
+      let rest = and_second (is_folded t d) (folded_at d && folded_fields ts ds) shut in
+      and_true (is_unnested_at t d) (are_unnested_fields ts ds)
+      (unnested_at d t (and_first (fits t d) (fit ts ds) ok) (and_first (is_folded t d) (folded_at d && folded_fields ts ds) shut) (and_first (folded_at d) (folded_fields ts ds) rest) (and_first (is_whole_at d) (is_whole_in ds) none_left))
+      (unnested_fields ds ts (and_second (fits t d) (fit ts ds) ok) (and_second (folded_at d) (folded_fields ts ds) rest) (and_second (is_whole_at d) (is_whole_in ds) none_left))
+
+  unnested_item : (d : Datum) (u : Union) (holes : Bool) → fits (item_type u holes) d ≡ true → folded_at d ≡ true → is_whole_at d ≡ true → is_unnested_at (field.Optional Body) d ≡ true
+  unnested_item (child c) u true ok shut none_left = unnested_tree c (and_second (allowed u (kind_of c)) (typed c) ok) shut none_left
+  unnested_item (child c) u false ok shut none_left = unnested_tree c (and_second (allowed u (kind_of c)) (typed c) ok) shut none_left
+  unnested_item absent u holes ok shut none_left = refl
+  unnested_item _ u true ok shut none_left = absurd cc
+  unnested_item _ u false ok shut none_left = absurd cc
+
+  unnested_items : (ds : Data) (u : Union) (holes : Bool) → items_fit u holes ds ≡ true → folded_items ds ≡ true → is_whole_in ds ≡ true → are_unnested ds ≡ true
+  unnested_items none u holes ok shut none_left = refl
+  unnested_items (more d ds) u holes ok shut none_left =
+      and_true (is_unnested_at (field.Optional Body) d) (are_unnested ds)
+      (unnested_item d u holes (and_first (fits (item_type u holes) d) (items_fit u holes ds) ok) (and_first (folded_at d) (folded_items ds) shut) (and_first (is_whole_at d) (is_whole_in ds) none_left))
+      (unnested_items ds u holes (and_second (fits (item_type u holes) d) (items_fit u holes ds) ok) (and_second (folded_at d) (folded_items ds) shut) (and_second (is_whole_at d) (is_whole_in ds) none_left))
+
+-- so a whole script that is read is one of the grammar of files
+pub unnested_script : (r : Range) (at : ℕ) (t : Tree) → IsScript r at t → is_whole t ≡ true → is_unnested t ≡ true
+unnested_script r at t read none_left = unnested_tree t read.typed read.folded none_left
