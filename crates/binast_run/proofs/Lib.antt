@@ -2,6 +2,7 @@ pub mod DigitLemmas
 pub mod FileAnswers
 pub mod FirstKinds
 pub mod FirstWhole
+pub mod InGrammar
 pub mod NamedTrees
 pub mod NodesSpelled
 pub mod OutputLemmas

@@ -13,7 +13,7 @@ text_there (Some text ∷ texts) zero is = refl
 text_there (None ∷ texts) zero is = cc
 text_there (entry ∷ texts) (suc n) is = text_there texts n is
 
-both : (a b : Bool) → a ≡ true → b ≡ true → (a && b) ≡ true
+pub both : (a b : Bool) → a ≡ true → b ≡ true → (a && b) ≡ true
 both true true e f = refl
 both true false e f = cc
 both false b e f = cc

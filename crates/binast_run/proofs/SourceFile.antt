@@ -34,6 +34,7 @@ source_file-in_grammar n small = record {
   distinct_texts = none_distinct;
   entries = tt;
   has_all = refl;
+  named = refl;
   spelling = refl;
   small = source_file-small n;
   script = refl;

@@ -19,5 +19,5 @@ mod tests;
 mod writer;
 
 pub use gate::{Gate, Idle};
-pub use laws::files_of_first_sources_are_in_grammar;
+pub use laws::{files_of_first_sources_are_in_grammar, files_that_are_read_are_in_grammar};
 pub use program::run;

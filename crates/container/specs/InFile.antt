@@ -14,6 +14,7 @@ use Rattle.bast_schema.specs.Tree.{Tree, Datum, Data, branch, none, more, child,
 use Rattle.string_table.specs.Entries.{AreDistinct, is_same}
 use Rattle.container.specs.Atoms.{Atom, kind, text, atoms}
 use Rattle.container.specs.Container.{container}
+use Rattle.container.specs.Named.{named}
 use Rattle.container.specs.Spelled.{spelled}
 use Rattle.container.specs.Tables.{Tables}
 
@@ -67,6 +68,7 @@ pub record InFile (b : List ℕ) (h : Held) (t : Tree) : Type 0 where
   pub distinct_texts : AreDistinct tables.texts
   pub entries : AllByRecursion IsEntry tables.texts
   pub has_all : IsTrue (list_all (has_atom tables) (atoms h t))
+  pub named : IsTrue (named h t)
   pub spelling : b ≡ container tables (spelled tables h t)
   -- so that each length and count in it is spelled
   pub small : length b < 2 ^ 32

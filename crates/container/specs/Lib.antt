@@ -7,6 +7,7 @@ pub mod InFile
 pub mod IsContainer
 pub mod Laws
 pub mod Layout
+pub mod Named
 pub mod Parts
 pub mod Spelled
 pub mod Tables

@@ -42,7 +42,7 @@ use Rattle.tree_decoder.specs.Dues.{Due, due, dues, times, below, children, take
 use Rattle.tree_decoder.specs.Numbers.{◌>>=◌, number_from, judged, kind_of_number, kind_at, count_at, name_of, label_of, variant_of, choice_at, flag_at, numbered, leaf_at, is_leaf}
 use Rattle.tree_decoder.specs.Outcome.{Outcome, fault_from}
 use Rattle.tree_decoder.specs.Range.{Range, IsSound, left}
-use Rattle.tree_decoder.specs.Spelt.{named, named_at, all_named}
+use Rattle.container.specs.Named.{named, named_at, all_named}
 use Rattle.tree_decoder.specs.Windows.{windows_at}
 use Rattle.tree_decoder.proofs.Machine.{from_step}
 use Rattle.tree_decoder.proofs.Nodes.{node_goes, list_goes, framed_item, item_atoms, item_spelled}

@@ -25,7 +25,7 @@ use Rattle.container.specs.Atoms.{Atom, kind, count, flag, index, whole, text, w
 use Rattle.container.specs.InFile.{is_eager_at, are_eager}
 use Rattle.tree_decoder.specs.Dues.{Due, due, dues, times, below}
 use Rattle.tree_decoder.specs.Left.{puts, then_left, dues_left, is_folded, folded_at, folded_fields, IsOfDue}
-use Rattle.tree_decoder.specs.Spelt.{named_at, all_named}
+use Rattle.container.specs.Named.{named_at, all_named}
 use Rattle.tree_decoder.proofs.Nodes.{items_fit_times, length_times, times_atoms, times_folded, plain_item, and_true}
 
 -- ---- texts and bytes for the atoms

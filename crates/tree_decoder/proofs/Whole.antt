@@ -18,7 +18,8 @@ use Rattle.tree_decoder.specs.Left.{is_folded, folded, folded_at, folded_fields,
 use Rattle.tree_decoder.specs.Found.{is_text, stands, stands_at, all_stand}
 use Rattle.tree_decoder.specs.Range.{Range, held}
 use Rattle.tree_decoder.specs.Script.{IsScript}
-use Rattle.tree_decoder.specs.Spelt.{IsSpelt, named, named_at, all_named}
+use Rattle.container.specs.Named.{named, named_at, all_named}
+use Rattle.tree_decoder.specs.Spelt.{IsSpelt}
 use Rattle.tree_decoder.proofs.Nodes.{and_true}
 use Rattle.tree_decoder.proofs.OneTree.{one_tree}
 

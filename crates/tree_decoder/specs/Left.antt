@@ -12,7 +12,7 @@ use Rattle.bast_schema.specs.Unions.{allowed}
 use Rattle.container.specs.Atoms.{Atom, kind, count, flag, index, whole, text, window, atoms_of}
 use Rattle.container.specs.InFile.{is_eager_at}
 use Rattle.tree_decoder.specs.Dues.{Due, due, dues, times, below}
-use Rattle.tree_decoder.specs.Spelt.{named_at}
+use Rattle.container.specs.Named.{named_at}
 
 -- what an atom puts in place of its due, or none where it is of another type
 abbrev pub puts : FieldType → ℕ → Bool → Atom → Option (List Due)

@@ -1,31 +1,17 @@
 -- Which trees are spelled by a range, whatever read them.
-use Rattle.std.specs.Prelude.{ℕ, Bool, true, ◌&&◌, ◌≤◌, ◌≡◌, IsTrue, is_some, Result, Ok, Err}
+use Rattle.std.specs.Prelude.{ℕ, ◌≤◌, ◌≡◌, IsTrue, Result, Ok, Err}
 use Rattle.std.specs.List.{list_all}
 use Rattle.bast_base.specs.declared.errors.Halt.{Halt}
 use Rattle.bast_base.specs.declared.errors.Halt.TheVariants.{Memory, Format}
 use Rattle.bast_schema.specs.declared.kind.Kind.TheVariants.{Script}
 use Rattle.bast_schema.specs.Counts.{is_whole}
-use Rattle.bast_schema.specs.Held.{Held, text_of}
-use Rattle.bast_schema.specs.Tree.{Tree, branch, Datum, child, listed, name, Data, none, more, typed, depth, kind_of}
+use Rattle.bast_schema.specs.Held.{Held}
+use Rattle.bast_schema.specs.Tree.{Tree, typed, depth, kind_of}
 use Rattle.container.specs.Atoms.{atoms}
 use Rattle.container.specs.InFile.{has_atom}
+use Rattle.container.specs.Named.{named}
 use Rattle.container.specs.Spelled.{spelled}
 use Rattle.tree_decoder.specs.Range.{Range, held, left}
-
--- whether each name stands for a text
-abbrev mutual
-  pub named : Held → Tree → Bool
-  named h (branch k ds) = all_named h ds
-
-  pub named_at : Held → Datum → Bool
-  named_at h (child t) = named h t
-  named_at h (listed ds) = all_named h ds
-  named_at h (name n) = is_some (text_of h n)
-  named_at h _ = true
-
-  pub all_named : Held → Data → Bool
-  all_named h none = true
-  all_named h (more d ds) = named_at h d && all_named h ds
 
 -- The bytes from a place on spell the script t, whose names and windows stand for those of h, over the tables.
 pub record IsSpelt (r : Range) (at : ℕ) (h : Held) (t : Tree) : Type 0 where
