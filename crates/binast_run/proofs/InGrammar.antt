@@ -1,14 +1,27 @@
--- A file that is read as a whole tree is in the grammar of files.
-use Rattle.std.proofs.Common.{◌≡◌, ℕ, ◌<◌, ◌^◌, Bool, true, ◌&&◌, List, length, slice_range, refl, ap, ◌∙◌}
+-- A file that is read as a whole tree is in the grammar of files, and a file in the grammar has no fault.
+use Rattle.std.proofs.Common.{◌≡◌, ℕ, ◌<◌, ◌≤◌, ◌^◌, Bool, true, ◌&&◌, List, [], ◌∷◌, ◌++◌, Option, None, length, ap, ◌∙◌, arith, length-append}
+use Rattle.std.proofs.lemmas.Grind.{common_steps}
+use Rattle.std.specs.List.{All}
+use Rattle.std.specs.Prelude.{flat_map}
+use Rattle.var_numbers.specs.Varnum.{varnum}
+use Rattle.var_numbers.proofs.VarnumLemmas.{varnum-nonempty}
+use Rattle.bast_schema.proofs.Both.{and_first}
+use Rattle.bast_schema.specs.Held.{Held}
 use Rattle.bast_schema.specs.Counts.{is_whole}
 use Rattle.bast_schema.specs.Tree.{Tree, typed}
-use Rattle.container.specs.Container.{container}
+use Rattle.container.specs.Container.{container, counted, entry_bytes}
 use Rattle.container.specs.InFile.{InFile, is_unnested}
-use Rattle.container.specs.IsContainer.{tables}
+use Rattle.container.specs.IsContainer.{IsFileOf, layout_in, tables}
+use Rattle.container.specs.Spelled.{spelled}
+use Rattle.container.specs.Tables.{Tables}
+use Rattle.container.proofs.ReadBack.{few_entries, layout_read}
 use Rattle.container.specs.declared.layout.Layout.{Layout}
 use Rattle.tree_decoder.specs.Outer.{tree_range}
+use Rattle.tree_decoder.specs.Range.{IsSound}
+use Rattle.tree_decoder.specs.Spelt.{IsSpelt}
+use Rattle.tree_decoder.proofs.Scripts.{script_accepted}
 use Rattle.tree_decoder.proofs.Whole.{spelt_by_itself, unnested_script}
-use Rattle.binast_run.specs.Reading.{IsFileOfScript}
+use Rattle.binast_run.specs.Reading.{fault_in, first_fault, IsFileOfScript}
 use Rattle.binast_run.proofs.NamedTrees.{both}
 
 pub read-in_grammar : (bytes : List ℕ) (l : Layout) (t : Tree) → length bytes < 2 ^ 32 → IsFileOfScript bytes l t → is_whole t ≡ true
@@ -29,3 +42,42 @@ read-in_grammar bytes l t few file whole =
       typed_whole = both (typed t && is_whole t) (is_unnested t) (both (typed t) (is_whole t) file.script.typed whole) (unnested_script r l.from t file.script whole);
       shallow = file.script.shallow;
     }
+
+-- a table has no more entries than bytes
+texts_within : (s : Tables) (tree : List ℕ) → length s.texts ≤ length (container s tree)
+unfolding container
+texts_within s tree = grind (arith, common_steps, few_entries entry_bytes s.texts)
+
+-- a file in the grammar has no fault
+pub in_grammar-accepted : (bytes : List ℕ) (h : Held) (t : Tree) → length bytes ≤ 8388608 → All (λ byte. byte < 256) bytes → InFile bytes h t → first_fault bytes ≡ None
+in_grammar-accepted bytes h t short small file =
+    let s = file.tables
+    in let tree = spelled s h t
+    in let is_file : IsFileOf s tree bytes = record {
+      distinct_kinds = file.distinct_kinds;
+      distinct_texts = file.distinct_texts;
+      entries = file.entries;
+      spelling = file.spelling;
+    }
+    in let was_read = layout_read s tree bytes is_file file.small
+    in let l = layout_in s tree bytes
+    in let r = tree_range bytes l
+    in let few : length s.texts < 2 ^ 32 = omega (arith, texts_within s tree, ap length file.spelling)
+    in let sound : IsSound r = record {
+      within = omega arith;
+      short = short;
+      bytes = small;
+      kinds = file.distinct_kinds;
+      texts = file.distinct_texts;
+      few = few;
+    }
+    in let spelt : IsSpelt r l.from h t = record {
+      spelled = was_read.1;
+      has_all = file.has_all;
+      named = file.named;
+      kind = file.script;
+      typed = and_first (typed t) (is_whole t) (and_first (typed t && is_whole t) (is_unnested t) file.typed_whole);
+      shallow = file.shallow;
+    }
+    in let start : l.from ≤ r.end = omega arith
+    in ap (fault_in bytes) was_read.0 ∙ script_accepted r l.from h t sound start spelt

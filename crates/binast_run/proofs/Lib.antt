@@ -5,6 +5,7 @@ pub mod FirstWhole
 pub mod InGrammar
 pub mod NamedTrees
 pub mod NodesSpelled
+pub mod OneTree
 pub mod OutputLemmas
 pub mod Outputs
 pub mod ReadFile

@@ -1,11 +1,14 @@
 -- What holds of every first source, and of every file that is read.
-use Rattle.std.specs.Prelude.{ℕ, ◌<◌, ◌^◌, List, length, IsTrue}
+use Rattle.std.specs.Prelude.{◌≡◌, ℕ, ◌<◌, ◌≤◌, ◌^◌, List, length, IsTrue, None}
+use Rattle.std.specs.List.{All}
 use Rattle.bast_schema.specs.Counts.{is_whole}
+use Rattle.bast_schema.specs.Held.{Held}
 use Rattle.bast_schema.specs.Tree.{Tree}
 use Rattle.container.specs.declared.layout.Layout.{Layout}
+use Rattle.container.specs.Atoms.{atoms}
 use Rattle.container.specs.InFile.{InFile}
 use Rattle.binast_run.specs.File.{file, nothing}
-use Rattle.binast_run.specs.Reading.{IsFileOfScript}
+use Rattle.binast_run.specs.Reading.{first_fault, IsFileOfScript}
 use Rattle.binast_run.specs.SourceTree.{source_tree}
 
 abbrev pub FilesOfFirstSourcesAreInGrammar : Type 0
@@ -16,3 +19,12 @@ abbrev pub FilesThatAreReadAreInGrammar : Type 0
 FilesThatAreReadAreInGrammar =
     (bytes : List ℕ) (l : Layout) (t : Tree) → length bytes < 2 ^ 32 → IsFileOfScript bytes l t → IsTrue (is_whole t)
     → InFile bytes (record { texts = l.strings; tape = bytes }) t
+
+-- a file in the grammar, of bytes and of a length that are read, has no fault
+abbrev pub FilesInGrammarHaveNoFault : Type 0
+FilesInGrammarHaveNoFault =
+    (bytes : List ℕ) (h : Held) (t : Tree) → length bytes ≤ 8388608 → All (λ byte. byte < 256) bytes → InFile bytes h t → first_fault bytes ≡ None
+
+-- A file is that of one tree: the trees that it spells have the same kinds, counts, numbers and texts in order.
+abbrev pub FilesHaveOneTree : Type 0
+FilesHaveOneTree = (bytes : List ℕ) (h g : Held) (t u : Tree) → InFile bytes h t → InFile bytes g u → atoms h t ≡ atoms g u

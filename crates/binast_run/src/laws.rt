@@ -1,5 +1,5 @@
 // What holds of the definitions alone.
-ghost use Rattle.binast_run.specs.Laws.{FilesOfFirstSourcesAreInGrammar, FilesThatAreReadAreInGrammar};
+ghost use Rattle.binast_run.specs.Laws.{FilesHaveOneTree, FilesInGrammarHaveNoFault, FilesOfFirstSourcesAreInGrammar, FilesThatAreReadAreInGrammar};
 
 /// The file of a first source is in the grammar of files, and spells that source's tree.
 pub fn files_of_first_sources_are_in_grammar()
@@ -9,4 +9,14 @@ pub fn files_of_first_sources_are_in_grammar()
 /// A file that is read as a tree without windows is in the grammar of files, and spells that tree.
 pub fn files_that_are_read_are_in_grammar()
     ensures { FilesThatAreReadAreInGrammar }
+{}
+
+/// A file in the grammar of files, of at most 8,388,608 bytes, has no fault: it is read.
+pub fn files_in_grammar_have_no_fault()
+    ensures { FilesInGrammarHaveNoFault }
+{}
+
+/// A file in the grammar of files is that of one tree.
+pub fn files_have_one_tree()
+    ensures { FilesHaveOneTree }
 {}

@@ -131,7 +131,7 @@ entries_read {A} more bytes_of bytes end xs (y ∷ ys) at fresh order small few 
     let next = entries_read more bytes_of bytes end (xs ++ y ∷ []) ys to fresh.1 f.within small few f.rest in
     rw first (next ∙ ap (λ (zs : List A). Ok (zs, end)) (append_assoc xs (y ∷ []) ys))
 
-few_entries : {A : Type 0} (bytes_of : A → List ℕ) (ys : List A) → length ys ≤ length (flat_map (λ y. counted (bytes_of y)) ys)
+pub few_entries : {A : Type 0} (bytes_of : A → List ℕ) (ys : List A) → length ys ≤ length (flat_map (λ y. counted (bytes_of y)) ys)
 few_entries bytes_of [] = omega arith
 few_entries bytes_of (y ∷ ys) =
     let rest = few_entries bytes_of ys in

@@ -129,6 +129,33 @@ fn the_first_fault_is_told(rt: HostRuntime) -> Result<(), Fail> {
     Ok(())
 }
 
+// The same causes at the one statement of a block.
+#[test]
+fn the_first_fault_in_a_block_is_told(rt: HostRuntime) -> Result<(), Fail> {
+    let alloc = rt.alloc();
+    let rows: [(&[u8], u32, Why); 12] = [
+        (&[], 11, Why::Ended),
+        (&[1, 0], 12, Why::Overlong),
+        (&[1, 1, 1, 1, 0x20], 15, Why::TooBig),
+        (&[30], 11, Why::BadKind),
+        (&[8, 0], 11, Why::BadKind),
+        (&[18, 8], 12, Why::BadString),
+        (&[22, 16, 2, 0, 2, 0], 13, Why::BadString),
+        (&[12, 4, 2, 14, 16, 2, 10], 16, Why::BadString),
+        (&[12, 6], 12, Why::BadVariant),
+        (&[12, 4, 0], 13, Why::EmptyList),
+        (&[4, 6, 0x3F, 0xF8, 0, 0, 0, 0, 0, 0], 13, Why::BadWhole),
+        (&[22, 16, 0, 0, 6, 9, 9], 18, Why::Ended),
+    ];
+    for (statement, at, why) in &rows {
+        let mut tree = Vec::from_slice(alloc, &[0, 0, 2, 0, 0, 2, 26, 28, 0, 0, 2])?;
+        tree.extend_from_slice(statement)?;
+        assert!(rt; has_fault(alloc, &tree, *at, *why)?);
+    }
+    assert!(rt; has_fault(alloc, &[0, 0, 2, 0, 0, 2, 26, 28, 0, 2], 9, Why::BadBool)?);
+    Ok(())
+}
+
 // The bytes of that many `!` before a number.
 fn deep(alloc: Global, depth: u32) -> Result<Vec<u8>, Fail> {
     let mut tree = Vec::from_slice(alloc, &[0, 0, 2, 0, 0, 2, 4])?;
