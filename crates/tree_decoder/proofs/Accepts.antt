@@ -39,7 +39,8 @@ use Rattle.container.specs.InFile.{has_atom, is_eager, is_eager_at, are_eager}
 use Rattle.container.specs.Spelled.{framed, spelled, spelled_at, spelled_items, spelled_fields}
 use Rattle.container.specs.Tables.{Tables, kind_place, text_place}
 use Rattle.tree_decoder.specs.Dues.{Due, due, dues, times, below, children, taken}
-use Rattle.tree_decoder.specs.Numbers.{◌>>=◌, number_from, judged, kind_of_number, kind_at, count_at, name_of, label_of, variant_of, choice_at, flag_at, numbered, leaf_at, is_leaf}
+use Rattle.container.specs.Answers.{◌>>=◌}
+use Rattle.tree_decoder.specs.Numbers.{number_from, judged, kind_of_number, kind_at, count_at, name_of, label_of, variant_of, choice_at, flag_at, numbered, leaf_at, is_leaf}
 use Rattle.tree_decoder.specs.Outcome.{Outcome, fault_from}
 use Rattle.tree_decoder.specs.Range.{Range, IsSound, left}
 use Rattle.container.specs.Named.{named, named_at, all_named}

@@ -4,7 +4,7 @@ use Rattle.std.proofs.lemmas.Bool.{lt-ltb, le-ltb}
 use Rattle.bast_base.specs.declared.errors.FormatFault.{FormatFault}
 use Rattle.bast_base.specs.declared.errors.Why.TheVariants.{Trailing}
 use Rattle.tree_decoder.specs.Dues.{Due, Taken, atom_at}
-use Rattle.tree_decoder.specs.Numbers.{fault}
+use Rattle.container.specs.Answers.{fault}
 use Rattle.tree_decoder.specs.Outcome.{ends, behind, after, done, go, outcome_from}
 use Rattle.tree_decoder.specs.Range.{Range, IsSound}
 use Rattle.tree_decoder.specs.Windows.{skipped}

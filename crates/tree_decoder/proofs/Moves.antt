@@ -14,7 +14,8 @@ use Rattle.bast_schema.specs.Tree.{Datum, flag, whole, item_type}
 use Rattle.bast_schema.specs.Unions.{allowed}
 use Rattle.tree_decoder.specs.Dues.{Taken, taken, dues, times, children, atom_of}
 use Rattle.tree_decoder.specs.Found.{Spent}
-use Rattle.tree_decoder.specs.Numbers.{fault, ◌>>=◌, number_from, judged, kind_of_number, kind_at, count_at, whole_with, whole_or, whole_at, flag_of, flag_at, numbered, leaf_at}
+use Rattle.container.specs.Answers.{fault, ◌>>=◌}
+use Rattle.tree_decoder.specs.Numbers.{number_from, judged, kind_of_number, kind_at, count_at, whole_with, whole_or, whole_at, flag_of, flag_at, numbered, leaf_at}
 use Rattle.tree_decoder.specs.Range.{Range, IsSound}
 use Rattle.tree_decoder.specs.Windows.{windows_at, skipped}
 use Rattle.tree_decoder.proofs.Spells.{bind_ok, guard_ok, chosen_ok, is_ok, ok_is, number_spells}

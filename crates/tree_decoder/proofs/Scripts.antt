@@ -13,7 +13,7 @@ use Rattle.bast_schema.proofs.Typed.{allowed_one}
 use Rattle.container.specs.Spelled.{spelled}
 use Rattle.tree_decoder.specs.Dues.{due}
 use Rattle.tree_decoder.specs.Found.{Found, Fails, Spent}
-use Rattle.tree_decoder.specs.Numbers.{fault}
+use Rattle.container.specs.Answers.{fault}
 use Rattle.tree_decoder.specs.Outcome.{Outcome, behind, outcome_from}
 use Rattle.tree_decoder.specs.Range.{Range, IsSound, held, left}
 use Rattle.tree_decoder.specs.Script.{IsScript, ReadsScript, script, script_outcome}

@@ -11,7 +11,8 @@ use Rattle.var_numbers.specs.VarnumRead.{number_in, moved}
 use Rattle.var_numbers.proofs.InverseLemmas.{number_in-spelled}
 use Rattle.var_numbers.proofs.RangeLemmas.{range-length}
 use Rattle.var_numbers.proofs.VarnumLemmas.{varnum-nonempty}
-use Rattle.tree_decoder.specs.Numbers.{◌>>=◌, number_from}
+use Rattle.container.specs.Answers.{◌>>=◌}
+use Rattle.tree_decoder.specs.Numbers.{number_from}
 use Rattle.tree_decoder.specs.Range.{Range, IsSound, left}
 
 -- the value of a step that did not fail

@@ -9,7 +9,8 @@ use Rattle.bast_schema.specs.Tree.{Datum, index, name, no_name, choice, window}
 use Rattle.bast_schema.specs.View.{datum}
 use Rattle.bast_schema.specs.Choices.{choice_of_text}
 use Rattle.tree_decoder.specs.Found.{Gives, SpendsLeaf, Spent}
-use Rattle.tree_decoder.specs.Numbers.{fault, ◌>>=◌, number_from, leaf_at, numbered, name_of, label_of, variant_of, choice_at, window_of}
+use Rattle.container.specs.Answers.{fault, ◌>>=◌}
+use Rattle.tree_decoder.specs.Numbers.{number_from, leaf_at, numbered, name_of, label_of, variant_of, choice_at, window_of}
 use Rattle.tree_decoder.specs.Range.{Range}
 use Rattle.tree_decoder.specs.Windows.{windows_at}
 use Rattle.std.proofs.lemmas.Bool.{ltb-false}

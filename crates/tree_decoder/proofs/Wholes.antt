@@ -7,7 +7,8 @@ use Rattle.bast_base.specs.declared.errors.Why.TheVariants.{BadWhole}
 use Rattle.var_numbers.specs.Pattern.{pattern}
 use Rattle.var_numbers.proofs.PatternLemmas.{pattern-injective}
 use Rattle.bast_schema.specs.Tree.{whole}
-use Rattle.tree_decoder.specs.Numbers.{fault, passing_below, whole_with, whole_at}
+use Rattle.container.specs.Answers.{fault}
+use Rattle.tree_decoder.specs.Numbers.{passing_below, whole_with, whole_at}
 use Rattle.tree_decoder.specs.Range.{Range}
 
 eqb_same : (m n : ℕ) → m ≡ n → eqb m n ≡ true

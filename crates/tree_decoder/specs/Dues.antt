@@ -7,7 +7,8 @@ use Rattle.bast_schema.specs.declared.kind.Kind.{Kind}
 use Rattle.bast_schema.specs.Fields.{fields}
 use Rattle.bast_schema.specs.Kinds.{counted}
 use Rattle.bast_schema.specs.Tree.{item_type}
-use Rattle.tree_decoder.specs.Numbers.{◌>>=◌, kind_at, count_at, leaf_at}
+use Rattle.container.specs.Answers.{◌>>=◌}
+use Rattle.tree_decoder.specs.Numbers.{kind_at, count_at, leaf_at}
 use Rattle.tree_decoder.specs.Range.{Range}
 use Rattle.tree_decoder.specs.Windows.{windows_at}
 

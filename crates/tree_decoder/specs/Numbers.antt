@@ -17,15 +17,8 @@ use Rattle.bast_schema.specs.Fields.{has_lazy}
 use Rattle.bast_schema.specs.Kinds.{counted, same_kind}
 use Rattle.bast_schema.specs.Tree.{Datum, flag, index, whole, name, no_name, choice, window}
 use Rattle.bast_schema.specs.Unions.{allowed}
+use Rattle.container.specs.Answers.{fault, ◌>>=◌}
 use Rattle.tree_decoder.specs.Range.{Range, left}
-
-abbrev pub fault : ℕ → Why → FormatFault
-fault at why = record { at = at; why = why }
-
-infixl 10 ◌>>=◌
-abbrev pub ◌>>=◌ : {A B : Type 0} → Result A FormatFault → (A → Result B FormatFault) → Result B FormatFault
-(Ok x) >>= f = f x
-(Err e) >>= f = Err e
 
 -- a number, and the place after it
 abbrev pub number_from : Range → ℕ → Result (ℕ × ℕ) FormatFault

@@ -3,7 +3,7 @@ use Rattle.std.specs.Prelude.{ℕ, zero, suc, ◌+◌, ◌-◌, List, [], ◌∷
 use Rattle.bast_base.specs.declared.errors.FormatFault.{FormatFault}
 use Rattle.bast_base.specs.declared.errors.Why.TheVariants.{Trailing}
 use Rattle.tree_decoder.specs.Dues.{Due, Taken, atom_at}
-use Rattle.tree_decoder.specs.Numbers.{fault}
+use Rattle.container.specs.Answers.{fault}
 use Rattle.tree_decoder.specs.Range.{Range}
 
 -- the windows that were passed, in order, and the first fault

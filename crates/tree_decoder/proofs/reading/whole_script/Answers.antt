@@ -5,7 +5,7 @@ use Rattle.bast_base.specs.declared.errors.Why.TheVariants.{Trailing}
 use Rattle.bast_schema.specs.View.{datum}
 use Rattle.bast_schema.specs.declared.node.Value.{Value}
 use Rattle.tree_decoder.specs.Found.{Found}
-use Rattle.tree_decoder.specs.Numbers.{fault}
+use Rattle.container.specs.Answers.{fault}
 use Rattle.tree_decoder.specs.Range.{range_of}
 use Rattle.tree_decoder.specs.Script.{script}
 use Rattle.tree_decoder.proofs.Scripts.{script_stands, bytes_left_over, script_spends, only_memory, only_failed}
