@@ -1,5 +1,6 @@
 pub mod DigitLemmas
 pub mod FileAnswers
+pub mod FirstAtoms
 pub mod FirstKinds
 pub mod FirstWhole
 pub mod InGrammar

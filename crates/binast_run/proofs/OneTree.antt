@@ -14,7 +14,7 @@ use Rattle.container.proofs.ReadBack.{one_reading}
 use Rattle.tree_decoder.specs.OneTree.{IsOver}
 use Rattle.tree_decoder.proofs.OneTree.{one_tree}
 
-file_of : (bytes : List ℕ) (h : Held) (t : Tree) (file : InFile bytes h t) → IsFileOf file.tables (spelled file.tables h t) bytes
+pub file_of : (bytes : List ℕ) (h : Held) (t : Tree) (file : InFile bytes h t) → IsFileOf file.tables (spelled file.tables h t) bytes
 file_of bytes h t file = record {
   distinct_kinds = file.distinct_kinds;
   distinct_texts = file.distinct_texts;

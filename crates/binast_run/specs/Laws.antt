@@ -8,6 +8,7 @@ use Rattle.container.specs.declared.layout.Layout.{Layout}
 use Rattle.container.specs.Atoms.{atoms}
 use Rattle.container.specs.InFile.{InFile}
 use Rattle.binast_run.specs.File.{file, nothing}
+use Rattle.binast_run.specs.FirstKinds.{first_other}
 use Rattle.binast_run.specs.Reading.{first_fault, IsFileOfScript}
 use Rattle.binast_run.specs.SourceTree.{source_tree}
 
@@ -28,3 +29,8 @@ FilesInGrammarHaveNoFault =
 -- A file is that of one tree: the trees that it spells have the same kinds, counts, numbers and texts in order.
 abbrev pub FilesHaveOneTree : Type 0
 FilesHaveOneTree = (bytes : List ℕ) (h g : Held) (t u : Tree) → InFile bytes h t → InFile bytes g u → atoms h t ≡ atoms g u
+
+-- a file in the grammar whose tree has the first kinds alone is read as such a tree
+abbrev pub FilesOfFirstKindsAreReadSo : Type 0
+FilesOfFirstKindsAreReadSo =
+    (bytes : List ℕ) (h : Held) (t : Tree) (l : Layout) (u : Tree) → InFile bytes h t → first_other t ≡ None → IsFileOfScript bytes l u → first_other u ≡ None

@@ -1,5 +1,5 @@
 // What holds of the definitions alone.
-ghost use Rattle.binast_run.specs.Laws.{FilesHaveOneTree, FilesInGrammarHaveNoFault, FilesOfFirstSourcesAreInGrammar, FilesThatAreReadAreInGrammar};
+ghost use Rattle.binast_run.specs.Laws.{FilesHaveOneTree, FilesInGrammarHaveNoFault, FilesOfFirstKindsAreReadSo, FilesOfFirstSourcesAreInGrammar, FilesThatAreReadAreInGrammar};
 
 /// The file of a first source is in the grammar of files, and spells that source's tree.
 pub fn files_of_first_sources_are_in_grammar()
@@ -19,4 +19,9 @@ pub fn files_in_grammar_have_no_fault()
 /// A file in the grammar of files is that of one tree.
 pub fn files_have_one_tree()
     ensures { FilesHaveOneTree }
+{}
+
+/// A file in the grammar of files whose tree has the first kinds alone is read as such a tree.
+pub fn files_of_first_kinds_are_read_so()
+    ensures { FilesOfFirstKindsAreReadSo }
 {}

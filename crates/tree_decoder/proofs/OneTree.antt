@@ -1,6 +1,6 @@
 -- Two trees that are spelled alike have the same atoms.
-use Rattle.std.proofs.Common.{ℕ, suc, ◌^◌, ◌<◌, ◌≡◌, Bool, true, false, not, ◌||◌, List, [], ◌∷◌, ◌++◌, length, take, drop, Option, Some, None, refl, sym, ap, subst, ◌∙◌, arith, append_assoc, append-nil, slice_get}
-use Rattle.std.specs.List.{list_all}
+use Rattle.std.proofs.Common.{ℕ, suc, ◌^◌, ◌<◌, ◌≡◌, Bool, true, false, not, ◌||◌, List, [], ◌∷◌, ◌++◌, length, take, drop, Option, Some, None, refl, sym, ap, subst, ◌∙◌, arith, append_assoc, append-nil, slice_get, inl, inr, ◌⊎◌}
+use Rattle.std.specs.List.{list_all, list_any}
 use Rattle.std.specs.Option.{unwrap_or}
 use Rattle.std.specs.Int.{w64, from_be_bytes, to_be_bytes}
 use Rattle.std.proofs.lemmas.Bool.{ltb-true}
@@ -17,7 +17,7 @@ use Rattle.bast_schema.specs.declared.kind.Kind.TheVariants.{Null}
 use Rattle.bast_schema.specs.declared.kind.Union.{Union}
 use Rattle.bast_schema.specs.declared.kind.Union.TheVariants.{Body}
 use Rattle.bast_schema.specs.Counts.{is_whole, is_whole_at, is_whole_in}
-use Rattle.bast_schema.specs.Fields.{fields}
+use Rattle.bast_schema.specs.Fields.{fields, has_lazy, is_lazy_type}
 use Rattle.bast_schema.specs.Held.{Held, text_of}
 use Rattle.bast_schema.specs.Kinds.{same_kind}
 use Rattle.bast_schema.specs.Tree.{Tree, branch, Datum, child, absent, listed, flag, index, whole, name, no_name, choice, Data, none, more, fits, fit, items_fit, item_type, is_none, count, typed}
@@ -29,7 +29,7 @@ use Rattle.string_table.proofs.Laws.{slice_get-place_in}
 use Rattle.string_table.proofs.Search.{position-from}
 use Rattle.container.specs.Atoms as atom
 use Rattle.container.specs.Atoms.{Atom, kind, text, chosen, atoms, atoms_of, atoms_of_fields, atoms_of_items}
-use Rattle.container.specs.InFile.{has_atom}
+use Rattle.container.specs.InFile.{are_eager, has_atom, is_eager, is_eager_at}
 use Rattle.container.specs.Spelled.{framed, spelled, spelled_at, spelled_items, spelled_fields}
 use Rattle.container.specs.Tables.{Tables, kind_place, text_place}
 use Rattle.tree_decoder.proofs.Accepts.{any_place, pattern_small, first_atom, other_atoms, front_atoms, back_atoms}
@@ -127,17 +127,17 @@ record Noded (s : Tables) (h : Held) (t : FieldType) (v : Datum) : Type 0 where
   pub bytes : spelled_at s h t v ≡ varnum (kind_place s kind) ++ spelled_fields s h (fields kind) values
   pub atoms : atoms_of h t v ≡ atom.kind kind ∷ atoms_of_fields h (fields kind) values
   pub fit : fit (fields kind) values ≡ true
-  pub whole : is_whole_in values ≡ true
+  pub whole : is_whole_at v ≡ true → is_whole_in values ≡ true
 
-noded : (s : Tables) (h : Held) (u : Union) (optional : Bool) (v : Datum) → fits (item_type u optional) v ≡ true → is_whole_at v ≡ true → Noded s h (item_type u optional) v
-noded s h u true (child (branch k ds)) e w = record { kind = k; values = ds; bytes = refl; atoms = refl; fit = and_second (allowed u k) (fit (fields k) ds) e; whole = w }
-noded s h u false (child (branch k ds)) e w = record { kind = k; values = ds; bytes = refl; atoms = refl; fit = and_second (allowed u k) (fit (fields k) ds) e; whole = w }
-noded s h u true absent e w = record { kind = Null; values = none; bytes = sym (append-nil (varnum (kind_place s Null))); atoms = refl; fit = refl; whole = refl }
-noded s h u true _ e w = absurd cc
-noded s h u false _ e w = absurd cc
+noded : (s : Tables) (h : Held) (u : Union) (optional : Bool) (v : Datum) → fits (item_type u optional) v ≡ true → Noded s h (item_type u optional) v
+noded s h u true (child (branch k ds)) e = record { kind = k; values = ds; bytes = refl; atoms = refl; fit = and_second (allowed u k) (fit (fields k) ds) e; whole = λ w. w }
+noded s h u false (child (branch k ds)) e = record { kind = k; values = ds; bytes = refl; atoms = refl; fit = and_second (allowed u k) (fit (fields k) ds) e; whole = λ w. w }
+noded s h u true absent e = record { kind = Null; values = none; bytes = sym (append-nil (varnum (kind_place s Null))); atoms = refl; fit = refl; whole = λ w. refl }
+noded s h u true _ e = absurd cc
+noded s h u false _ e = absurd cc
 
 lazy_noded : (s : Tables) (h : Held) (u : Union) (v : Datum) → fits (field.Lazy u) v ≡ true → is_whole_at v ≡ true → Noded s h (field.Lazy u) v
-lazy_noded s h u (child (branch k ds)) e w = record { kind = k; values = ds; bytes = refl; atoms = refl; fit = and_second (allowed u k) (fit (fields k) ds) e; whole = w }
+lazy_noded s h u (child (branch k ds)) e w = record { kind = k; values = ds; bytes = refl; atoms = refl; fit = and_second (allowed u k) (fit (fields k) ds) e; whole = λ w. w }
 lazy_noded s h u _ e w = absurd cc
 
 -- the fields of one kind, where they are spelled alike
@@ -182,40 +182,93 @@ record Listing (u : Union) (holes : Bool) (v : Datum) : Type 0 where
   pub values : Data
   pub is : v ≡ listed values
   pub fit : items_fit u holes values ≡ true
-  pub whole : is_whole_in values ≡ true
+  pub whole : is_whole_at v ≡ true → is_whole_in values ≡ true
 
-listing : (u : Union) (holes filled : Bool) (v : Datum) → fits (field.List u holes filled) v ≡ true → is_whole_at v ≡ true → Listing u holes v
-listing u holes filled (listed ds) e w = record { values = ds; is = refl; fit = and_second (not filled || not (is_none ds)) (items_fit u holes ds) e; whole = w }
-listing u holes filled _ e w = absurd cc
+listing : (u : Union) (holes filled : Bool) (v : Datum) → fits (field.List u holes filled) v ≡ true → Listing u holes v
+listing u holes filled (listed ds) e = record { values = ds; is = refl; fit = and_second (not filled || not (is_none ds)) (items_fit u holes ds) e; whole = λ w. w }
+listing u holes filled _ e = absurd cc
+
+-- No window of the second value is met: it has none, or the first has no lazy kind and the field is not lazy.
+abbrev Bare : FieldType → Datum → Datum → Type 0
+Bare t v o = (is_whole_at o ≡ true) ⊎ ((is_lazy_type t ≡ false) × (is_eager_at v ≡ true))
+
+abbrev BareIn : List FieldType → Data → Data → Type 0
+BareIn ts ds es = (is_whole_in es ≡ true) ⊎ ((list_any is_lazy_type ts ≡ false) × (are_eager ds ≡ true))
+
+abbrev BareItems : Data → Data → Type 0
+BareItems ds es = (is_whole_in es ≡ true) ⊎ (are_eager ds ≡ true)
+
+none_of : (a b : Bool) → (a || b) ≡ false → (a ≡ false) × (b ≡ false)
+none_of true b e = absurd cc
+none_of false b e = (refl, e)
+
+not_true : (a : Bool) → not a ≡ true → a ≡ false
+not_true true e = absurd cc
+not_true false e = refl
+
+lazy_whole : (u : Union) (v o : Datum) → Bare (field.Lazy u) v o → is_whole_at o ≡ true
+lazy_whole u v o (inl w) = w
+lazy_whole u v o (inr b) = let no : true ≡ false = b.0 in absurd cc
+
+eager_in : (k : Kind) (ds es : Data) → is_eager (branch k ds) ≡ true → BareIn (fields k) ds es
+eager_in k ds es e = inr (not_true (has_lazy k) (and_first (not (has_lazy k)) (are_eager ds) e), and_second (not (has_lazy k)) (are_eager ds) e)
+
+bare_fields : (t : FieldType) (k : Kind) (ds : Data) (o : Datum) (es : Data) → (is_whole_at o ≡ true → is_whole_in es ≡ true) → Bare t (child (branch k ds)) o → BareIn (fields k) ds es
+bare_fields t k ds o es w' (inl w) = inl (w' w)
+bare_fields t k ds o es w' (inr b) = eager_in k ds es b.1
+
+bare_list : (t : FieldType) (ds : Data) (o : Datum) (es : Data) → (is_whole_at o ≡ true → is_whole_in es ≡ true) → Bare t (listed ds) o → BareItems ds es
+bare_list t ds o es w' (inl w) = inl (w' w)
+bare_list t ds o es w' (inr b) = inr b.1
+
+bare_first : (t : FieldType) (ts : List FieldType) (v o : Datum) (ds es : Data) → BareIn (t ∷ ts) (more v ds) (more o es) → Bare t v o
+bare_first t ts v o ds es (inl w) = inl (and_first (is_whole_at o) (is_whole_in es) w)
+bare_first t ts v o ds es (inr b) = inr ((none_of (is_lazy_type t) (list_any is_lazy_type ts) b.0).0, and_first (is_eager_at v) (are_eager ds) b.1)
+
+bare_rest : (t : FieldType) (ts : List FieldType) (v o : Datum) (ds es : Data) → BareIn (t ∷ ts) (more v ds) (more o es) → BareIn ts ds es
+bare_rest t ts v o ds es (inl w) = inl (and_second (is_whole_at o) (is_whole_in es) w)
+bare_rest t ts v o ds es (inr b) = inr ((none_of (is_lazy_type t) (list_any is_lazy_type ts) b.0).1, and_second (is_eager_at v) (are_eager ds) b.1)
+
+item_not_lazy : (u : Union) (holes : Bool) → is_lazy_type (item_type u holes) ≡ false
+item_not_lazy u true = refl
+item_not_lazy u false = refl
+
+bare_item : (u : Union) (holes : Bool) (v o : Datum) (ds es : Data) → BareItems (more v ds) (more o es) → Bare (item_type u holes) v o
+bare_item u holes v o ds es (inl w) = inl (and_first (is_whole_at o) (is_whole_in es) w)
+bare_item u holes v o ds es (inr b) = inr (item_not_lazy u holes, and_first (is_eager_at v) (are_eager ds) b)
+
+bare_items : (v o : Datum) (ds es : Data) → BareItems (more v ds) (more o es) → BareItems ds es
+bare_items v o ds es (inl w) = inl (and_second (is_whole_at o) (is_whole_in es) w)
+bare_items v o ds es (inr b) = inr (and_second (is_eager_at v) (are_eager ds) b)
 
 both_atoms : (a b c d : List Atom) (x y : List ℕ) → a ≡ b → Same c d x y → Same (a ++ c) (b ++ d) x y
 both_atoms a b c d x y first r = record { atoms = ap (λ (z : List Atom). z ++ c) first ∙ ap (λ (z : List Atom). b ++ z) r.atoms; rest = r.rest }
 
 mutual
-  same_value : (s : Tables) (h g : Held) (v : Datum) (t : FieldType) (o : Datum) (x y : List ℕ) → fits t v ≡ true → fits t o ≡ true → is_whole_at v ≡ true → is_whole_at o ≡ true → list_all (has_atom s) (atoms_of h t v) ≡ true → list_all (has_atom s) (atoms_of g t o) ≡ true → framed t (spelled_at s h t v) ++ x ≡ framed t (spelled_at s g t o) ++ y → Same (atoms_of h t v) (atoms_of g t o) x y
+  same_value : (s : Tables) (h g : Held) (v : Datum) (t : FieldType) (o : Datum) (x y : List ℕ) → fits t v ≡ true → fits t o ≡ true → is_whole_at v ≡ true → Bare t v o → list_all (has_atom s) (atoms_of h t v) ≡ true → list_all (has_atom s) (atoms_of g t o) ≡ true → framed t (spelled_at s h t v) ++ x ≡ framed t (spelled_at s g t o) ++ y → Same (atoms_of h t v) (atoms_of g t o) x y
   same_value s h g (child (branch k ds)) (field.Node u) o x y p q vw ow hv ho e =
-      let n = noded s g u false o q ow in
-      nodes_same s h g (field.Node u) k ds o x y n hv ho e (λ f a is. same_fields s h g ds (fields k) n.values x y (and_second (allowed u k) (fit (fields k) ds) p) f vw n.whole (other_atoms s (atom.kind k) (atoms_of_fields h (fields k) ds) hv) a is)
+      let n = noded s g u false o q in
+      nodes_same s h g (field.Node u) k ds o x y n hv ho e (λ f a is. same_fields s h g ds (fields k) n.values x y (and_second (allowed u k) (fit (fields k) ds) p) f vw (bare_fields (field.Node u) k ds o n.values n.whole ow) (other_atoms s (atom.kind k) (atoms_of_fields h (fields k) ds) hv) a is)
   same_value s h g (child (branch k ds)) (field.Optional u) o x y p q vw ow hv ho e =
-      let n = noded s g u true o q ow in
-      nodes_same s h g (field.Optional u) k ds o x y n hv ho e (λ f a is. same_fields s h g ds (fields k) n.values x y (and_second (allowed u k) (fit (fields k) ds) p) f vw n.whole (other_atoms s (atom.kind k) (atoms_of_fields h (fields k) ds) hv) a is)
+      let n = noded s g u true o q in
+      nodes_same s h g (field.Optional u) k ds o x y n hv ho e (λ f a is. same_fields s h g ds (fields k) n.values x y (and_second (allowed u k) (fit (fields k) ds) p) f vw (bare_fields (field.Optional u) k ds o n.values n.whole ow) (other_atoms s (atom.kind k) (atoms_of_fields h (fields k) ds) hv) a is)
   same_value s h g absent (field.Optional u) o x y p q vw ow hv ho e =
-      let n = noded s g u true o q ow in
+      let n = noded s g u true o q in
       let front = ap (λ (b : List ℕ). b ++ x) (append-nil (varnum (kind_place s Null))) in
       nodes_same s h g (field.Optional u) Null none o x y n hv ho (front ∙ e) (λ f a is. no_fields s h g n.values x y f is)
   same_value s h g (child (branch k ds)) (field.Lazy u) o x y p q vw ow hv ho e =
-      let n = lazy_noded s g u o q ow in
+      let n = lazy_noded s g u o q (lazy_whole u (child (branch k ds)) o ow) in
       let bytes = spelled_at s h (field.Lazy u) (child (branch k ds)) in
       let r = windows_apart bytes (spelled_at s g (field.Lazy u) o) x y e in
-      let in_window = nodes_same s h g (field.Lazy u) k ds o [] [] n hv ho (ap (λ (b : List ℕ). b ++ []) r.0) (λ f a is. same_fields s h g ds (fields k) n.values [] [] (and_second (allowed u k) (fit (fields k) ds) p) f vw n.whole (other_atoms s (atom.kind k) (atoms_of_fields h (fields k) ds) hv) a is) in
+      let in_window = nodes_same s h g (field.Lazy u) k ds o [] [] n hv ho (ap (λ (b : List ℕ). b ++ []) r.0) (λ f a is. same_fields s h g ds (fields k) n.values [] [] (and_second (allowed u k) (fit (fields k) ds) p) f vw (bare_fields (field.Lazy u) k ds o n.values n.whole ow) (other_atoms s (atom.kind k) (atoms_of_fields h (fields k) ds) hv) a is) in
       record { atoms = in_window.atoms; rest = r.1 }
   same_value s h g (listed ds) (field.List u holes filled) o x y p q vw ow hv ho e =
-      let l = listing u holes filled o q ow in
+      let l = listing u holes filled o q in
       let ho' : list_all (has_atom s) (atom.count (count l.values) ∷ atoms_of_items g l.values) ≡ true = subst (λ (z : Datum). list_all (has_atom s) (atoms_of g (field.List u holes filled) z) ≡ true) l.is ho in
       let e' : (varnum (count ds) ++ spelled_items s h ds) ++ x ≡ (varnum (count l.values) ++ spelled_items s g l.values) ++ y = subst (λ (z : Datum). (varnum (count ds) ++ spelled_items s h ds) ++ x ≡ spelled_at s g (field.List u holes filled) z ++ y) l.is e in
       let apart = sym (append_assoc (varnum (count ds)) (spelled_items s h ds) x) ∙ e' ∙ append_assoc (varnum (count l.values)) (spelled_items s g l.values) y in
       let r = varnum-prefix_free (count ds) (count l.values) (spelled_items s h ds ++ x) (spelled_items s g l.values ++ y) apart in
-      let items = same_items s h g ds u holes l.values x y r.0 (and_second (not filled || not (is_none ds)) (items_fit u holes ds) p) l.fit vw l.whole (other_atoms s (atom.count (count ds)) (atoms_of_items h ds) hv) (other_atoms s (atom.count (count l.values)) (atoms_of_items g l.values) ho') r.1 in
+      let items = same_items s h g ds u holes l.values x y r.0 (and_second (not filled || not (is_none ds)) (items_fit u holes ds) p) l.fit vw (bare_list (field.List u holes filled) ds o l.values l.whole ow) (other_atoms s (atom.count (count ds)) (atoms_of_items h ds) hv) (other_atoms s (atom.count (count l.values)) (atoms_of_items g l.values) ho') r.1 in
       record {
         atoms = ap (λ (n : ℕ). atom.count n ∷ atoms_of_items h ds) r.0 ∙ ap (λ (z : List Atom). atom.count (count l.values) ∷ z) items.atoms ∙ ap (atoms_of g (field.List u holes filled)) (sym l.is);
         rest = items.rest;
@@ -229,7 +282,7 @@ mutual
   same_value s h g v (field.Choice set) o x y p q vw ow hv ho e = texts_same s h g (field.Choice set) v o x y refl p q hv ho e
   same_value s h g _ _ o x y p q vw ow hv ho e = absurd cc
 
-  same_fields : (s : Tables) (h g : Held) (ds : Data) (ts : List FieldType) (es : Data) (x y : List ℕ) → fit ts ds ≡ true → fit ts es ≡ true → is_whole_in ds ≡ true → is_whole_in es ≡ true → list_all (has_atom s) (atoms_of_fields h ts ds) ≡ true → list_all (has_atom s) (atoms_of_fields g ts es) ≡ true → spelled_fields s h ts ds ++ x ≡ spelled_fields s g ts es ++ y → Same (atoms_of_fields h ts ds) (atoms_of_fields g ts es) x y
+  same_fields : (s : Tables) (h g : Held) (ds : Data) (ts : List FieldType) (es : Data) (x y : List ℕ) → fit ts ds ≡ true → fit ts es ≡ true → is_whole_in ds ≡ true → BareIn ts ds es → list_all (has_atom s) (atoms_of_fields h ts ds) ≡ true → list_all (has_atom s) (atoms_of_fields g ts es) ≡ true → spelled_fields s h ts ds ++ x ≡ spelled_fields s g ts es ++ y → Same (atoms_of_fields h ts ds) (atoms_of_fields g ts es) x y
   same_fields s h g none [] none x y p q dw ew hd he e = record { atoms = refl; rest = e }
   same_fields s h g none [] (more o es) x y p q dw ew hd he e = absurd cc
   same_fields s h g none (t ∷ ts) es x y p q dw ew hd he e = absurd cc
@@ -239,10 +292,10 @@ mutual
       let a = framed t (spelled_at s h t v) in
       let b = framed t (spelled_at s g t o) in
       let apart = sym (append_assoc a (spelled_fields s h ts ds) x) ∙ e ∙ append_assoc b (spelled_fields s g ts es) y in
-      let first = same_value s h g v t o (spelled_fields s h ts ds ++ x) (spelled_fields s g ts es ++ y) (and_first (fits t v) (fit ts ds) p) (and_first (fits t o) (fit ts es) q) (and_first (is_whole_at v) (is_whole_in ds) dw) (and_first (is_whole_at o) (is_whole_in es) ew) (front_atoms s (atoms_of h t v) (atoms_of_fields h ts ds) hd) (front_atoms s (atoms_of g t o) (atoms_of_fields g ts es) he) apart in
-      both_atoms _ _ _ _ x y first.atoms (same_fields s h g ds ts es x y (and_second (fits t v) (fit ts ds) p) (and_second (fits t o) (fit ts es) q) (and_second (is_whole_at v) (is_whole_in ds) dw) (and_second (is_whole_at o) (is_whole_in es) ew) (back_atoms s (atoms_of h t v) (atoms_of_fields h ts ds) hd) (back_atoms s (atoms_of g t o) (atoms_of_fields g ts es) he) first.rest)
+      let first = same_value s h g v t o (spelled_fields s h ts ds ++ x) (spelled_fields s g ts es ++ y) (and_first (fits t v) (fit ts ds) p) (and_first (fits t o) (fit ts es) q) (and_first (is_whole_at v) (is_whole_in ds) dw) (bare_first t ts v o ds es ew) (front_atoms s (atoms_of h t v) (atoms_of_fields h ts ds) hd) (front_atoms s (atoms_of g t o) (atoms_of_fields g ts es) he) apart in
+      both_atoms _ _ _ _ x y first.atoms (same_fields s h g ds ts es x y (and_second (fits t v) (fit ts ds) p) (and_second (fits t o) (fit ts es) q) (and_second (is_whole_at v) (is_whole_in ds) dw) (bare_rest t ts v o ds es ew) (back_atoms s (atoms_of h t v) (atoms_of_fields h ts ds) hd) (back_atoms s (atoms_of g t o) (atoms_of_fields g ts es) he) first.rest)
 
-  same_items : (s : Tables) (h g : Held) (ds : Data) (u : Union) (holes : Bool) (es : Data) (x y : List ℕ) → count ds ≡ count es → items_fit u holes ds ≡ true → items_fit u holes es ≡ true → is_whole_in ds ≡ true → is_whole_in es ≡ true → list_all (has_atom s) (atoms_of_items h ds) ≡ true → list_all (has_atom s) (atoms_of_items g es) ≡ true → spelled_items s h ds ++ x ≡ spelled_items s g es ++ y → Same (atoms_of_items h ds) (atoms_of_items g es) x y
+  same_items : (s : Tables) (h g : Held) (ds : Data) (u : Union) (holes : Bool) (es : Data) (x y : List ℕ) → count ds ≡ count es → items_fit u holes ds ≡ true → items_fit u holes es ≡ true → is_whole_in ds ≡ true → BareItems ds es → list_all (has_atom s) (atoms_of_items h ds) ≡ true → list_all (has_atom s) (atoms_of_items g es) ≡ true → spelled_items s h ds ++ x ≡ spelled_items s g es ++ y → Same (atoms_of_items h ds) (atoms_of_items g es) x y
   same_items s h g none u holes none x y c p q dw ew hd he e = record { atoms = refl; rest = e }
   same_items s h g none u holes (more o es) x y c p q dw ew hd he e = absurd (omega arith)
   same_items s h g (more v ds) u holes none x y c p q dw ew hd he e = absurd (omega arith)
@@ -259,16 +312,23 @@ mutual
       let apart = ap (λ (z : List ℕ). z ++ rest_a) plain_a ∙ sym (append_assoc a (spelled_items s h ds) x) ∙ e ∙ append_assoc b (spelled_items s g es) y ∙ ap (λ (z : List ℕ). z ++ rest_b) (sym plain_b) in
       let atoms_a = item_atoms h u holes v pv in
       let atoms_b = item_atoms g u holes o po in
-      let first = same_value s h g v (item_type u holes) o rest_a rest_b pv po (and_first (is_whole_at v) (is_whole_in ds) dw) (and_first (is_whole_at o) (is_whole_in es) ew) (ap (list_all (has_atom s)) (sym atoms_a) ∙ front_atoms s (atoms_of h (field.Optional Body) v) (atoms_of_items h ds) hd) (ap (list_all (has_atom s)) (sym atoms_b) ∙ front_atoms s (atoms_of g (field.Optional Body) o) (atoms_of_items g es) he) apart in
+      let first = same_value s h g v (item_type u holes) o rest_a rest_b pv po (and_first (is_whole_at v) (is_whole_in ds) dw) (bare_item u holes v o ds es ew) (ap (list_all (has_atom s)) (sym atoms_a) ∙ front_atoms s (atoms_of h (field.Optional Body) v) (atoms_of_items h ds) hd) (ap (list_all (has_atom s)) (sym atoms_b) ∙ front_atoms s (atoms_of g (field.Optional Body) o) (atoms_of_items g es) he) apart in
       let left : suc (count ds) ≡ suc (count es) = c in
-      both_atoms _ _ _ _ x y (atoms_a ∙ first.atoms ∙ sym atoms_b) (same_items s h g ds u holes es x y (omega arith) (and_second (fits (item_type u holes) v) (items_fit u holes ds) p) (and_second (fits (item_type u holes) o) (items_fit u holes es) q) (and_second (is_whole_at v) (is_whole_in ds) dw) (and_second (is_whole_at o) (is_whole_in es) ew) (back_atoms s (atoms_of h (field.Optional Body) v) (atoms_of_items h ds) hd) (back_atoms s (atoms_of g (field.Optional Body) o) (atoms_of_items g es) he) first.rest)
+      both_atoms _ _ _ _ x y (atoms_a ∙ first.atoms ∙ sym atoms_b) (same_items s h g ds u holes es x y (omega arith) (and_second (fits (item_type u holes) v) (items_fit u holes ds) p) (and_second (fits (item_type u holes) o) (items_fit u holes es) q) (and_second (is_whole_at v) (is_whole_in ds) dw) (bare_items v o ds es ew) (back_atoms s (atoms_of h (field.Optional Body) v) (atoms_of_items h ds) hd) (back_atoms s (atoms_of g (field.Optional Body) o) (atoms_of_items g es) he) first.rest)
 
 -- ---- whole trees
 
-pub one_tree : (s : Tables) (h g : Held) (t u : Tree) → list_all (has_atom s) (atoms h t) ≡ true → list_all (has_atom s) (atoms g u) ≡ true → typed t ≡ true → typed u ≡ true → is_whole t ≡ true → is_whole u ≡ true → spelled s h t ≡ spelled s g u → atoms h t ≡ atoms g u
-one_tree s h g (branch k ds) (branch j es) ht hu tt1 tu wt wu e =
+one_root : (s : Tables) (h g : Held) (k j : Kind) (ds es : Data) → list_all (has_atom s) (atoms h (branch k ds)) ≡ true → list_all (has_atom s) (atoms g (branch j es)) ≡ true → fit (fields k) ds ≡ true → fit (fields j) es ≡ true → is_whole_in ds ≡ true → BareIn (fields k) ds es → spelled s h (branch k ds) ≡ spelled s g (branch j es) → atoms h (branch k ds) ≡ atoms g (branch j es)
+one_root s h g k j ds es ht hu tt1 tu wt bare e =
     let front = spelled_fields s h (fields k) ds in
     let other = spelled_fields s g (fields j) es in
     let r = varnum-prefix_free (kind_place s k) (kind_place s j) front other e in
     let same = one_kind s k j (first_atom s (atom.kind k) (atoms_of_fields h (fields k) ds) ht) (first_atom s (atom.kind j) (atoms_of_fields g (fields j) es) hu) r.0 in
-    (same_after s h g k j ds es [] [] same tu (other_atoms s (atom.kind j) (atoms_of_fields g (fields j) es) hu) (append-nil front ∙ r.1 ∙ sym (append-nil other)) (λ f a is. same_fields s h g ds (fields k) es [] [] tt1 f wt wu (other_atoms s (atom.kind k) (atoms_of_fields h (fields k) ds) ht) a is)).atoms
+    (same_after s h g k j ds es [] [] same tu (other_atoms s (atom.kind j) (atoms_of_fields g (fields j) es) hu) (append-nil front ∙ r.1 ∙ sym (append-nil other)) (λ f a is. same_fields s h g ds (fields k) es [] [] tt1 f wt bare (other_atoms s (atom.kind k) (atoms_of_fields h (fields k) ds) ht) a is)).atoms
+
+pub one_tree : (s : Tables) (h g : Held) (t u : Tree) → list_all (has_atom s) (atoms h t) ≡ true → list_all (has_atom s) (atoms g u) ≡ true → typed t ≡ true → typed u ≡ true → is_whole t ≡ true → is_whole u ≡ true → spelled s h t ≡ spelled s g u → atoms h t ≡ atoms g u
+one_tree s h g (branch k ds) (branch j es) ht hu tt1 tu wt wu e = one_root s h g k j ds es ht hu tt1 tu wt (inl wu) e
+
+-- a tree without lazy kinds is the only one with its spelling, also among those with windows
+pub one_eager_tree : (s : Tables) (h g : Held) (t u : Tree) → list_all (has_atom s) (atoms h t) ≡ true → list_all (has_atom s) (atoms g u) ≡ true → typed t ≡ true → typed u ≡ true → is_whole t ≡ true → is_eager t ≡ true → spelled s h t ≡ spelled s g u → atoms h t ≡ atoms g u
+one_eager_tree s h g (branch k ds) (branch j es) ht hu tt1 tu wt eager e = one_root s h g k j ds es ht hu tt1 tu wt (eager_in k ds es eager) e
