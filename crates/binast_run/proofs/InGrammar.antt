@@ -1,15 +1,12 @@
 -- A file that is read as a whole tree is in the grammar of files, and a file in the grammar has no fault.
-use Rattle.std.proofs.Common.{◌≡◌, ℕ, ◌<◌, ◌≤◌, ◌^◌, Bool, true, ◌&&◌, List, [], ◌∷◌, ◌++◌, Option, None, length, ap, ◌∙◌, arith, length-append}
+use Rattle.std.proofs.Common.{◌≡◌, ℕ, ◌<◌, ◌≤◌, ◌^◌, true, ◌&&◌, List, None, length, ap, ◌∙◌, arith}
 use Rattle.std.proofs.lemmas.Grind.{common_steps}
 use Rattle.std.specs.List.{All}
-use Rattle.std.specs.Prelude.{flat_map}
-use Rattle.var_numbers.specs.Varnum.{varnum}
-use Rattle.var_numbers.proofs.VarnumLemmas.{varnum-nonempty}
 use Rattle.bast_schema.proofs.Both.{and_first}
 use Rattle.bast_schema.specs.Held.{Held}
 use Rattle.bast_schema.specs.Counts.{is_whole}
 use Rattle.bast_schema.specs.Tree.{Tree, typed}
-use Rattle.container.specs.Container.{container, counted, entry_bytes}
+use Rattle.container.specs.Container.{container, entry_bytes}
 use Rattle.container.specs.InFile.{InFile, is_unnested}
 use Rattle.container.specs.IsContainer.{IsFileOf, layout_in, tables}
 use Rattle.container.specs.Spelled.{spelled}

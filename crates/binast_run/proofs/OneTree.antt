@@ -1,12 +1,11 @@
 -- A file in the grammar is that of one tree.
-use Rattle.std.proofs.Common.{◌≡◌, ℕ, Bool, true, ◌&&◌, List, subst, sym, ap, ◌∙◌}
-use Rattle.std.specs.List.{list_all}
+use Rattle.std.proofs.Common.{◌≡◌, ℕ, ◌&&◌, List, subst, sym, ap, ◌∙◌}
 use Rattle.bast_schema.proofs.Both.{and_first, and_second}
 use Rattle.bast_schema.specs.Counts.{is_whole}
 use Rattle.bast_schema.specs.Held.{Held}
 use Rattle.bast_schema.specs.Tree.{Tree, typed}
 use Rattle.container.specs.Atoms.{atoms}
-use Rattle.container.specs.InFile.{InFile, has_atom, is_unnested}
+use Rattle.container.specs.InFile.{InFile, is_unnested}
 use Rattle.container.specs.IsContainer.{IsFileOf}
 use Rattle.container.specs.Spelled.{spelled}
 use Rattle.container.specs.Tables.{Tables}

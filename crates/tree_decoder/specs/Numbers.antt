@@ -2,7 +2,6 @@
 use Rattle.std.specs.Prelude.{ℕ, zero, suc, ◌+◌, ◌^◌, ◌&&◌, ◌||◌, Bool, true, false, not, List, nat_lt, nat_eq, slice_get, slice_index, slice_range, if◌then◌else◌, Option, None, Some, Result, Ok, Err}
 use Rattle.std.specs.Int.{from_be_bytes, w64}
 use Rattle.bast_base.specs.declared.errors.FormatFault.{FormatFault}
-use Rattle.bast_base.specs.declared.errors.Why.{Why}
 use Rattle.bast_base.specs.declared.errors.Why.TheVariants.{Ended, BadKind, BadString, BadVariant, BadBool, BadWhole, EmptyList, TooDeep}
 use Rattle.var_numbers.specs.Pattern.{pattern}
 use Rattle.var_numbers.specs.VarnumRead.{number_at}
