@@ -24,10 +24,10 @@ use Rattle.container.specs.Named.{named, named_at, all_named}
 use Rattle.tree_decoder.proofs.Nodes.{item_atoms}
 use Rattle.tree_decoder.proofs.Accepts.{enough_of, choice_text_of, not_lazy}
 
-puts_plain : (u : Union) (k : Kind) (d : ℕ) (w : Bool) → allowed u k ≡ true → (w && has_lazy k) ≡ false → cond (allowed u k && not (w && has_lazy k)) (Some (dues (fields k) (below k d) w)) None ≡ Some (dues (fields k) (below k d) w)
+pub puts_plain : (u : Union) (k : Kind) (d : ℕ) (w : Bool) → allowed u k ≡ true → (w && has_lazy k) ≡ false → cond (allowed u k && not (w && has_lazy k)) (Some (dues (fields k) (below k d) w)) None ≡ Some (dues (fields k) (below k d) w)
 puts_plain u k d w allow eager = rw (allow, eager) refl
 
-puts_null : (u : Union) (k : Kind) (d : ℕ) (w : Bool) (b : Bool) → same_kind k Null ≡ b → allowed u k ≡ true → (w && has_lazy k) ≡ false → cond b (Some []) (cond (allowed u k && not (w && has_lazy k)) (Some (dues (fields k) (below k d) w)) None) ≡ Some (dues (fields k) (below k d) w)
+pub puts_null : (u : Union) (k : Kind) (d : ℕ) (w : Bool) (b : Bool) → same_kind k Null ≡ b → allowed u k ≡ true → (w && has_lazy k) ≡ false → cond b (Some []) (cond (allowed u k && not (w && has_lazy k)) (Some (dues (fields k) (below k d) w)) None) ≡ Some (dues (fields k) (below k d) w)
 puts_null u k d w true is allow eager = ap (λ (j : Kind). Some (dues (fields j) (below j d) w)) (sym (same_kind_true k Null is))
 puts_null u k d w false is allow eager = puts_plain u k d w allow eager
 

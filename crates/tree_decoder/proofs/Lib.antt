@@ -5,6 +5,7 @@ pub mod Moves
 pub mod Nodes
 pub mod OfTree
 pub mod OneTree
+pub mod Rows
 pub mod Runs
 pub mod Scripts
 pub mod Single

@@ -33,7 +33,7 @@ mutual
   pub named_where_stands : (r : Range) (t : Tree) → stands r t ≡ true → named (held r) t ≡ true
   named_where_stands r (branch k ds) e = all_named_where_stand r ds e
 
-  named_at_where_stands : (r : Range) (d : Datum) → stands_at r d ≡ true → named_at (held r) d ≡ true
+  pub named_at_where_stands : (r : Range) (d : Datum) → stands_at r d ≡ true → named_at (held r) d ≡ true
   named_at_where_stands r (child t) e = named_where_stands r t e
   named_at_where_stands r (listed ds) e = all_named_where_stand r ds e
   named_at_where_stands r (name n) e = some_text r n (slice_get r.tables.texts n) refl e

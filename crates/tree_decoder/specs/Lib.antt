@@ -6,6 +6,7 @@ pub mod OneTree
 pub mod Outcome
 pub mod Outer
 pub mod Range
+pub mod Row
 pub mod Script
 pub mod Spelt
 pub mod Windows

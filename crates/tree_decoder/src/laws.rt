@@ -1,5 +1,6 @@
 ghost use Rattle.tree_decoder.specs.Left.{AreDue, AreOfTree};
 ghost use Rattle.tree_decoder.specs.OneTree.{IsOneTree};
+ghost use Rattle.tree_decoder.specs.Row.{IsFirstBehindRow};
 
 /// The atoms of each well-typed value whose lazy contents are windows are due one after another where the value is due,
 /// and after them nothing more of it is. It does nothing: its clause is the law.
@@ -17,4 +18,10 @@ pub fn only_trees_leave_nothing_due()
 /// the law.
 pub fn one_tree_is_spelled()
     ensures { IsOneTree }
+{}
+
+/// What the reading answers is the cause for the first due behind the longest row of atoms that stand one after another,
+/// each spelled at its place and of the type that is due there. It does nothing: its clause is the law.
+pub fn fault_is_first_behind_row()
+    ensures { IsFirstBehindRow }
 {}

@@ -9,6 +9,8 @@ mod reading;
 #[cfg(test)]
 mod tests;
 
-pub use laws::{atoms_are_due, one_tree_is_spelled, only_trees_leave_nothing_due};
+pub use laws::{
+    atoms_are_due, fault_is_first_behind_row, one_tree_is_spelled, only_trees_leave_nothing_due,
+};
 pub use outer::read_outer;
 pub use reading::read_tree;

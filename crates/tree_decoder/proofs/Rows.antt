@@ -1,0 +1,190 @@
+-- The machine takes the longest row of atoms, and answers the cause for the first due behind it.
+use Rattle.std.proofs.Common.{ℕ, zero, suc, ◌+◌, ◌-◌, ◌<◌, ◌≤◌, ◌≡◌, Bool, true, false, not, ◌&&◌, ◌||◌, cond, ltb, get_or, List, [], ◌∷◌, ◌++◌, Option, Some, None, Result, Ok, Err, refl, sym, ap, subst, ◌∙◌, arith, append-nil}
+use Rattle.bast_base.specs.declared.errors.FormatFault.{FormatFault}
+use Rattle.bast_base.specs.declared.errors.Why.TheVariants.{BadKind, TooDeep}
+use Rattle.bast_schema.specs.declared.kind.FieldType.{FieldType}
+use Rattle.bast_schema.specs.declared.kind.FieldType.TheVariants as field
+use Rattle.bast_schema.specs.declared.kind.Kind.{Kind}
+use Rattle.bast_schema.specs.declared.kind.Kind.TheVariants.{Null}
+use Rattle.bast_schema.specs.declared.kind.Union.{Union}
+use Rattle.bast_schema.specs.Choices.{choice_texts}
+use Rattle.bast_schema.specs.Fields.{has_lazy}
+use Rattle.bast_schema.specs.Held.{Held, text_of, bytes_of}
+use Rattle.bast_schema.specs.Kinds.{counted, same_kind}
+use Rattle.bast_schema.specs.Tree.{Datum, flag, index, whole, name, no_name, choice, window, fits, item_type}
+use Rattle.bast_schema.specs.Unions.{allowed}
+use Rattle.bast_schema.proofs.Both.{and_first, and_second}
+use Rattle.std.specs.Prelude.{slice_get}
+use Rattle.container.specs.Answers.{fault, ◌>>=◌}
+use Rattle.container.specs.Atoms as atom
+use Rattle.container.specs.Atoms.{Atom, atoms_of}
+use Rattle.container.specs.InFile.{is_eager_at}
+use Rattle.container.specs.Spelled.{framed, spelled_at}
+use Rattle.container.specs.Tables.{Tables}
+use Rattle.tree_decoder.specs.Dues.{Due, due, dues, times, children, Taken, taken, atom_of, atom_at}
+use Rattle.tree_decoder.specs.Left.{puts, then_left, dues_left, is_folded, folded_at}
+use Rattle.tree_decoder.specs.Numbers.{number_from, judged, kind_of_number, kind_at, count_at, leaf_at, is_leaf}
+use Rattle.tree_decoder.specs.Outcome.{after, go, outcome_from}
+use Rattle.tree_decoder.specs.Range.{Range, IsSound, held, left}
+use Rattle.tree_decoder.specs.Row.{Longest, here, and_then, spelled_one}
+use Rattle.tree_decoder.specs.Windows.{windows_at}
+use Rattle.tree_decoder.proofs.Dues.{left_at, puts_plain, puts_null}
+use Rattle.tree_decoder.proofs.Moves.{atom_moves}
+use Rattle.tree_decoder.proofs.Nodes.{absent_stands, count_stands, kind_stands}
+use Rattle.tree_decoder.proofs.Single.{leaf_stands}
+use Rattle.tree_decoder.proofs.Spells.{bind_ok, guard_ok, is_ok, ok_is}
+use Rattle.tree_decoder.proofs.Whole.{named_at_where_stands}
+
+-- ---- a kind inside a window is not lazy
+
+or_last : (a b : Bool) → (a || b) ≡ false → b ≡ false
+or_last true b e = absurd cc
+or_last false b e = e
+
+judged_plain : (u : Union) (d : ℕ) (w : Bool) (at next : ℕ) (j k : Kind) (m : ℕ) → judged u d w at next j ≡ Ok (Some k, m) → (w && has_lazy k) ≡ false
+judged_plain u d w at next j k m e =
+    let g = guard_ok (not (allowed u j) || (w && has_lazy j)) (fault at BadKind) (cond (counted j && ltb 512 d) (Err (fault at TooDeep)) (Ok (Some j, next))) (Some k, m) e in
+    let h = guard_ok (counted j && ltb 512 d) (fault at TooDeep) (Ok (Some j, next)) (Some k, m) g.1 in
+    let is : (Some j, next) ≡ (Some k, m) = ok_is _ _ h.1 in
+    let kind : Some j ≡ Some k = ap (λ (p : Option Kind × ℕ). p.0) is in
+    let same : j ≡ k = cc in
+    rw (← same) (or_last (not (allowed u j)) (w && has_lazy j) g.0)
+
+chosen_plain : (b : Bool) (u : Union) (d : ℕ) (w : Bool) (at next : ℕ) (j k : Kind) (m : ℕ) → cond b (is_ok (None, next)) (judged u d w at next j) ≡ Ok (Some k, m) → (w && has_lazy k) ≡ false
+chosen_plain true u d w at next j k m e = let is : (None, next) ≡ (Some k, m) = ok_is _ _ e in let kind : None ≡ Some k = ap (λ (p : Option Kind × ℕ). p.0) is in absurd cc
+chosen_plain false u d w at next j k m e = judged_plain u d w at next j k m e
+
+numbered_plain : (o : Option Kind) (u : Union) (optional : Bool) (d : ℕ) (w : Bool) (at next : ℕ) (k : Kind) (m : ℕ) → kind_of_number u optional d w at next o ≡ Ok (Some k, m) → (w && has_lazy k) ≡ false
+numbered_plain None u optional d w at next k m e = absurd cc
+numbered_plain (Some j) u optional d w at next k m e = chosen_plain (optional && same_kind j Null) u d w at next j k m e
+
+kind_plain : (r : Range) (u : Union) (optional : Bool) (d : ℕ) (w : Bool) (at : ℕ) (k : Kind) (m : ℕ) → kind_at r u optional d w at ≡ Ok (Some k, m) → (w && has_lazy k) ≡ false
+unfolding kind_at
+kind_plain r u optional d w at k m e =
+    let b = bind_ok (number_from r at) (λ n. kind_of_number u optional d w at n.1 (slice_get r.tables.kinds n.0)) (Some k, m) e in
+    numbered_plain (slice_get r.tables.kinds b.0.0) u optional d w at b.0.1 k m b.2
+
+-- ---- one atom
+
+-- the atom of a due, and what it puts
+record Step (r : Range) (t : FieldType) (d : ℕ) (w : Bool) (at : ℕ) (y : Taken) : Type 0 where
+  pub atom : Atom
+  pub spelled : left r at ≡ spelled_one r.tables atom ++ left r y.next
+  pub puts : puts t d w atom ≡ Some y.puts
+
+node_puts : (u : Union) (optional : Bool) (d : ℕ) (w : Bool) (k : Kind) → allowed u k ≡ true → (w && has_lazy k) ≡ false → puts (item_type u optional) d w (atom.kind k) ≡ Some (children (Some k) d w)
+node_puts u true d w k allow plain = puts_null u k d w (same_kind k Null) refl allow plain
+node_puts u false d w k allow plain = puts_plain u k d w allow plain
+
+absent_puts : (u : Union) (optional : Bool) (d : ℕ) (w : Bool) → optional ≡ true → puts (item_type u optional) d w (atom.kind Null) ≡ Some []
+absent_puts u true d w is = refl
+absent_puts u false d w is = absurd cc
+
+node_step : (r : Range) (u : Union) (optional : Bool) (d : ℕ) (w : Bool) (at : ℕ) (o : Option Kind) (m : ℕ) → IsSound r → at ≤ r.end → kind_at r u optional d w at ≡ Ok (o, m) → Step r (item_type u optional) d w at (taken (children o d w) [] m)
+node_step r u optional d w at (Some k) m sound order e =
+    let k-stands = kind_stands r u optional d w at k m sound order e in
+    record { atom = atom.kind k; spelled = k-stands.spelled; puts = node_puts u optional d w k k-stands.allowed (kind_plain r u optional d w at k m e) }
+node_step r u optional d w at None m sound order e =
+    let none-stands = absent_stands r u optional d w at m sound order e in
+    record { atom = atom.kind Null; spelled = none-stands.0; puts = absent_puts u optional d w none-stands.1 }
+
+node_taken : (r : Range) (u : Union) (optional : Bool) (d : ℕ) (w : Bool) (at : ℕ) (y : Taken) → IsSound r → at ≤ r.end → (kind_at r u optional d w at >>= λ k. is_ok (taken (children k.0 d w) [] k.1)) ≡ Ok y → Step r (item_type u optional) d w at y
+node_taken r u optional d w at y sound order e =
+    let b = bind_ok (kind_at r u optional d w at) (λ k. is_ok (taken (children k.0 d w) [] k.1)) y e in
+    subst (λ (z : Taken). Step r (item_type u optional) d w at z) (ok_is _ _ b.2) (node_step r u optional d w at b.0.0 b.0.1 sound order b.1)
+
+list_step : (r : Range) (u : Union) (holes filled : Bool) (d : ℕ) (w : Bool) (at n m : ℕ) → IsSound r → at ≤ r.end → count_at r filled at ≡ Ok (n, m) → Step r (field.List u holes filled) d w at (taken (dues (times n (item_type u holes)) d w) [] m)
+list_step r u holes filled d w at n m sound order e =
+    let n-stands = count_stands r filled at n m sound order e in
+    record { atom = atom.count n; spelled = n-stands.spelled; puts = rw n-stands.enough refl }
+
+list_taken : (r : Range) (u : Union) (holes filled : Bool) (d : ℕ) (w : Bool) (at : ℕ) (y : Taken) → IsSound r → at ≤ r.end → (count_at r filled at >>= λ n. is_ok (taken (dues (times n.0 (item_type u holes)) d w) [] n.1)) ≡ Ok y → Step r (field.List u holes filled) d w at y
+list_taken r u holes filled d w at y sound order e =
+    let b = bind_ok (count_at r filled at) (λ n. is_ok (taken (dues (times n.0 (item_type u holes)) d w) [] n.1)) y e in
+    subst (λ (z : Taken). Step r (field.List u holes filled) d w at z) (ok_is _ _ b.2) (list_step r u holes filled d w at b.0.0 b.0.1 sound order b.1)
+
+nothing_put : (o : Option (List Due)) → then_left (λ es. dues_left es []) [] o ≡ Some [] → o ≡ Some []
+nothing_put None e = absurd cc
+nothing_put (Some es) e = ap (λ (ds : List Due). Some ds) (sym (append-nil es)) ∙ e
+
+-- a value with no parts is one atom
+record OneAtom (s : Tables) (h : Held) (t : FieldType) (v : Datum) : Type 0 where
+  pub atom : Atom
+  pub is : atoms_of h t v ≡ atom ∷ []
+  pub spelled : framed t (spelled_at s h t v) ≡ spelled_one s atom
+  pub eager : is_eager_at v ≡ true
+
+one_atom : (s : Tables) (h : Held) (t : FieldType) (v : Datum) → is_leaf t ≡ true → fits t v ≡ true → is_folded t v ≡ true → OneAtom s h t v
+one_atom s h field.Bool (flag b) leaf ok folded = record { atom = atom.flag b; is = refl; spelled = refl; eager = refl }
+one_atom s h field.Index (index n) leaf ok folded = record { atom = atom.index n; is = refl; spelled = refl; eager = refl }
+one_atom s h field.Whole (whole n) leaf ok folded = record { atom = atom.whole n; is = refl; spelled = refl; eager = refl }
+one_atom s h field.Text (name n) leaf ok folded = record { atom = atom.text (text_of h n); is = refl; spelled = refl; eager = refl }
+one_atom s h field.Name (name n) leaf ok folded = record { atom = atom.text (text_of h n); is = refl; spelled = refl; eager = refl }
+one_atom s h field.Label (name n) leaf ok folded = record { atom = atom.text (text_of h n); is = refl; spelled = refl; eager = refl }
+one_atom s h field.Label no_name leaf ok folded = record { atom = atom.text None; is = refl; spelled = refl; eager = refl }
+one_atom s h (field.Choice set) (choice n) leaf ok folded = record { atom = atom.text (Some (get_or (choice_texts set) n [])); is = refl; spelled = refl; eager = refl }
+one_atom s h (field.Lazy u) (window from to) leaf ok folded = record { atom = atom.window (bytes_of h from to); is = refl; spelled = refl; eager = refl }
+one_atom s h _ _ leaf ok folded = absurd cc
+
+leaf_step : (r : Range) (t : FieldType) (d : ℕ) (w : Bool) (at : ℕ) (x : Datum × ℕ) → IsSound r → at ≤ r.end → is_leaf t ≡ true → leaf_at r t at ≡ Ok x → Step r t d w at (taken [] (windows_at x.0) x.1)
+leaf_step r t d w at x sound order leaf e =
+    let st = leaf_stands r t at x sound order leaf e in
+    let plain = and_first (is_folded t x.0) (folded_at x.0) st.folded in
+    let a = one_atom r.tables (held r) t x.0 leaf st.fits plain in
+    let gone = left_at (held r) x.0 t d w st.fits (named_at_where_stands r x.0 st.stands) plain (and_second (is_folded t x.0) (folded_at x.0) st.folded) (λ inside. a.eager) [] [] in
+    record {
+      atom = a.atom;
+      spelled = st.spelled ∙ ap (λ (b : List ℕ). b ++ left r x.1) a.spelled;
+      puts = nothing_put (puts t d w a.atom) (sym (ap (λ (xs : List Atom). dues_left (due t d w ∷ []) (xs ++ [])) a.is) ∙ gone);
+    }
+
+leaf_taken : (r : Range) (t : FieldType) (d : ℕ) (w : Bool) (at : ℕ) (y : Taken) → IsSound r → at ≤ r.end → is_leaf t ≡ true → (leaf_at r t at >>= λ v. is_ok (taken [] (windows_at v.0) v.1)) ≡ Ok y → Step r t d w at y
+leaf_taken r t d w at y sound order leaf e =
+    let b = bind_ok (leaf_at r t at) (λ v. is_ok (taken [] (windows_at v.0) v.1)) y e in
+    subst (λ (z : Taken). Step r t d w at z) (ok_is _ _ b.2) (leaf_step r t d w at b.0 sound order leaf b.1)
+
+atom_step : (r : Range) (t : FieldType) (d : ℕ) (w : Bool) (at : ℕ) (y : Taken) → IsSound r → at ≤ r.end → atom_of r t d w at ≡ Ok y → Step r t d w at y
+atom_step r (field.Node u) d w at y sound order e = node_taken r u false d w at y sound order e
+atom_step r (field.Optional u) d w at y sound order e = node_taken r u true d w at y sound order e
+atom_step r (field.List u holes filled) d w at y sound order e = list_taken r u holes filled d w at y sound order e
+atom_step r field.Bool d w at y sound order e = leaf_taken r field.Bool d w at y sound order refl e
+atom_step r field.Index d w at y sound order e = leaf_taken r field.Index d w at y sound order refl e
+atom_step r field.Whole d w at y sound order e = leaf_taken r field.Whole d w at y sound order refl e
+atom_step r field.Text d w at y sound order e = leaf_taken r field.Text d w at y sound order refl e
+atom_step r field.Name d w at y sound order e = leaf_taken r field.Name d w at y sound order refl e
+atom_step r field.Label d w at y sound order e = leaf_taken r field.Label d w at y sound order refl e
+atom_step r (field.Choice set) d w at y sound order e = leaf_taken r (field.Choice set) d w at y sound order refl e
+atom_step r (field.Lazy u) d w at y sound order e = leaf_taken r (field.Lazy u) d w at y sound order refl e
+
+-- ---- the row
+
+-- the rows from each place on that lies ahead
+abbrev Ahead : Range → ℕ → Type 0
+Ahead r n = (ds : List Due) (at : ℕ) → at ≤ r.end → r.end + 1 ≤ n + at → Longest r ds at (go r n ds at).fault
+
+longest_after : (r : Range) (n : ℕ) (x : Due) (ds : List Due) (at : ℕ) (m : Result Taken FormatFault) → atom_at r x at ≡ m → IsSound r → at ≤ r.end → r.end + 1 ≤ suc n + at → Ahead r n → Longest r (x ∷ ds) at (after (go r n) ds m).fault
+longest_after r n x ds at (Err f) is sound order enough ahead =
+    record { atoms = []; rest = x ∷ ds; place = at; row = here (x ∷ ds) at; due = refl; stops = (f, is, refl) }
+longest_after r n x ds at (Ok y) is sound order enough ahead =
+    let moves = atom_moves r x.type x.depth x.inside at y sound order is in
+    let step = atom_step r x.type x.depth x.inside at y sound order is in
+    let on : at < y.next = moves.forward in
+    let others = ahead (y.puts ++ ds) y.next moves.within (omega arith) in
+    record {
+      atoms = step.atom ∷ others.atoms;
+      rest = others.rest;
+      place = others.place;
+      row = and_then x ds at step.atom y others.atoms others.rest others.place (record { taken = is; spelled = step.spelled; puts = step.puts }) others.row;
+      due = ap (then_left (λ es. dues_left es others.atoms) ds) step.puts ∙ others.due;
+      stops = others.stops;
+    }
+
+longest : (r : Range) (n : ℕ) → IsSound r → Ahead r n
+longest r zero sound [] at order enough = record { atoms = []; rest = []; place = at; row = here [] at; due = refl; stops = refl }
+longest r (suc n) sound [] at order enough = record { atoms = []; rest = []; place = at; row = here [] at; due = refl; stops = refl }
+longest r zero sound (x ∷ ds) at order enough = absurd (omega arith)
+longest r (suc n) sound (x ∷ ds) at order enough = longest_after r n x ds at (atom_at r x at) refl sound order enough (longest r n sound)
+
+pub first_behind_row : (r : Range) (ds : List Due) (at : ℕ) → IsSound r → at ≤ r.end → Longest r ds at (outcome_from r ds at).fault
+unfolding outcome_from
+first_behind_row r ds at sound order = longest r (r.end + 1 - at) sound ds at order (omega arith)
