@@ -93,3 +93,8 @@ mutual
 
 pub size_positive : (t : Tree) → 0 < size t
 size_positive (branch k ds) = omega arith
+
+-- a list with one more value at its end, before others
+pub join_last : (vs : List Value) (v : Value) (ds : Data) → join (data_of (vs ++ v ∷ [])) ds ≡ join (data_of vs) (more (datum v) ds)
+join_last [] v ds = refl
+join_last (w ∷ vs) v ds = ap (more (datum w)) (join_last vs v ds)

@@ -6,6 +6,7 @@
 #![tactic(auto)]
 
 mod choices;
+mod edits;
 mod fields;
 mod kind;
 mod names;
@@ -14,6 +15,7 @@ mod table;
 mod unions;
 
 pub use choices::{choice_of, choice_text, choices_in};
+pub use edits::{put_first, rebuilt, take_first};
 pub use fields::{field_name, fields_of, is_lazy};
 pub use kind::{EnumId, FieldType, Kind, Union};
 pub use names::{is_counted, kind_named, kind_numbered, name_of, number_of};

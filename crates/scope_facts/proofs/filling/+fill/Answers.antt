@@ -1,0 +1,22 @@
+use Rattle.std.proofs.Common.{refl, ◌∙◌, sym, ap, arith, ◌≤◌, ◌^◌, ◌≡◌}
+use Rattle.bast_schema.specs.Counts.{size_at}
+use Rattle.bast_schema.specs.View.{datum, data_of}
+use Rattle.scope_facts.specs.Names.{bound}
+use Rattle.scope_facts.specs.Filled.{filled_in}
+use Rattle.scope_facts.proofs.Loops.{item_weighs, item_size, step_on}
+use Rattle.scope_facts.proofs.FilledItems.{filled_step}
+use Rattle.scope_facts.proofs.FilledTyped.{filled_made}
+use Rattle.scope_facts.proofs.filling.+fill.Goals as goal
+
+pub fill_items-fill_value-requires : goal.fill_items-fill_value-requires
+fill_items-fill_value-requires t c = (omega (arith, item_weighs _ _ _ _ _ c.loop-value.invariant.all c.in-Some.ensures.steps.0), omega (arith, c.requires, item_size _ _ _ _ _ c.loop-value.invariant.all c.in-Some.ensures.steps.0))
+
+pub fill_items-loop-value-preserved : goal.fill_items-loop-value-preserved
+fill_items-loop-value-preserved t c = record {
+  filled = ap data_of c.in_ok-push.ensures.items ∙ filled_step _ _ _ _ c.loop-value.invariant.filled c.in_ok-fill_value.ensures;
+  all = step_on _ _ _ _ _ c.loop-value.invariant.all c.in-Some.ensures.steps.0;
+}
+
+pub fill_node-rebuilt-requires : goal.fill_node-rebuilt-requires
+fill_node-rebuilt-requires t c = filled_made _ _ _ _ c.parts-kind.ensures.tree c.parts-kind.ensures.typed c.parts-kind.ensures.depth c.requires
+    (c.in_ok-fields.ensures ∙ ap (λ ns. filled_in ns (data_of c.parts-kind.result.1.items)) (c.deref-2.ensures.value ∙ c.in_ok-put_bound.ensures ∙ rw (c.new-names.ensures.items, c.deref.ensures.value) refl))

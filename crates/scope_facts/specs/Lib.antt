@@ -1,0 +1,9 @@
+pub mod Bare
+pub mod Entries
+pub mod Exact
+pub mod Filled
+pub mod Flagged
+pub mod Frames
+pub mod Names
+pub mod Roles
+pub mod Uses

@@ -1,0 +1,12 @@
+//! The scopes of a program: which names each of them declares, which of those a function inside captures, and where a
+//! direct eval may see them.
+#![tactic(auto)]
+
+mod entries;
+mod filling;
+mod names;
+mod repeats;
+mod roles;
+
+pub use names::{Declared, NameKind};
+pub use roles::{Form, Part, Shape, form_of, part_of, scope_shape};
