@@ -4,3 +4,6 @@ pub mod Sizes
 pub mod FilledTyped
 pub mod Loops
 pub mod FilledItems
+pub mod Shadows
+pub mod FlaggedTyped
+pub mod Nearest

@@ -1,4 +1,5 @@
 pub mod Bare
+pub mod Covers
 pub mod Entries
 pub mod Exact
 pub mod Filled

@@ -33,9 +33,13 @@ abbrev pub declares : ℕ → Datum → Bool
 declares x (child (branch k (more (listed es) ds))) = has_entry x es
 declares x _ = false
 
+abbrev pub is_use_named : ℕ → Part → Option ℕ → Bool
+is_use_named x Use o = is_name x o
+is_use_named x _ o = false
+
+-- whether a node is a use of the name
 abbrev pub is_use_of : ℕ → Part → Data → Bool
-is_use_of x Use ds = is_name x (first_name ds)
-is_use_of x _ ds = false
+is_use_of x p ds = is_use_named x p (first_name ds)
 
 -- whether a name is used below a node, where no scope on the way has an entry of it
 abbrev mutual

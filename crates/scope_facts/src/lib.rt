@@ -2,6 +2,7 @@
 //! direct eval may see them.
 #![tactic(auto)]
 
+mod covers;
 mod entries;
 mod filling;
 mod names;

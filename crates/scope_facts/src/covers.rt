@@ -1,0 +1,138 @@
+ghost use Rattle.std.specs.Prelude.{◌≡◌, ◌++◌, ◌<◌, ◌≤◌, IfOk, OnOk, ℕ, Some, None, false, nat_eq, length, Option, if◌then◌else◌};
+ghost use Rattle.bast_schema.specs.View.{datum, data_of};
+ghost use Rattle.scope_facts.specs.Covers.{cover_of, touched, has_name, restored, names_among, entry_names, entry_name};
+ghost use Rattle.scope_facts.specs.declared.covers.Cover.{Cover};
+
+use crate::names::first_name_of;
+use bast_base::Memory;
+use bast_schema::Value;
+use std::alloc::Global;
+
+/// The innermost entry of a name that covers a place.
+#[derive(Clone, Copy, Debug)]
+pub(crate) struct Cover {
+    /// How many functions are around the entry's scope.
+    function: u32,
+    captured: bool,
+}
+
+/// What covered a name before a scope had an entry of it.
+#[derive(Clone, Copy, Debug)]
+pub(crate) struct Shadow {
+    name: u32,
+    cover: Option<Cover>,
+}
+
+/// The cover of a name.
+pub(crate) fn find_cover(covers: &[Option<Cover>], name: u32) -> Option<Cover>
+    ensures { result ≡ cover_of covers.now name }
+{
+    match covers.get(name as usize) {
+        Some(cover) => *cover,
+        None => None,
+    }
+}
+
+/// Makes room for the cover of a name.
+fn make_room(covers: &mut Vec<Option<Cover>>, name: u32) -> Result<(), Memory>
+    ensures room { OnOk result (name < length covers.new.items) }
+    ensures covers { OnOk result ((x : ℕ) → cover_of covers.new.items x ≡ cover_of covers.old.items x) }
+{
+    for _ in covers.len()..name as usize + 1 {
+        covers.push(None)?;
+    }
+    Ok(())
+}
+
+/// Changes the cover of a name.
+fn put_cover(covers: &mut Vec<Option<Cover>>, name: u32, cover: Option<Cover>) -> Result<(), Memory>
+    ensures { OnOk result ((x : ℕ) → cover_of covers.new.items x ≡ (if nat_eq name x then cover else cover_of covers.old.items x)) }
+{
+    make_room(covers, name)?;
+    covers[name as usize] = cover;
+    Ok(())
+}
+
+/// Captures the entry that covers a name, where it stands outside the innermost of so many functions.
+pub(crate) fn use_name(covers: &mut Vec<Option<Cover>>, now: u32, name: u32) -> Result<(), Memory>
+    ensures { OnOk result ((x : ℕ) → cover_of covers.new.items x ≡ touched (nat_eq name x) false now (cover_of covers.old.items x)) }
+{
+    let Some(cover) = find_cover(covers, name) else {
+        return Ok(());
+    };
+    if cover.function >= now {
+        return Ok(());
+    }
+    let captured = Cover {
+        function: cover.function,
+        captured: true,
+    };
+    put_cover(covers, name, Some(captured))
+}
+
+/// Covers names by the entries of a scope inside so many functions, and keeps what covered them before.
+pub(crate) fn enter(alloc: Global, covers: &mut Vec<Option<Cover>>, now: u32, names: &[u32]) -> Result<Vec<Shadow>, Memory>
+    ensures covers { OnOk result ((x : ℕ) → cover_of covers.new.items x ≡ (if has_name x names.now then Some (record {function = now; captured = false}) else cover_of covers.old.items x)) }
+    ensures shadows { IfOk result (λ r. (x : ℕ) (o : Option Cover) → restored r.items x o ≡ (if has_name x names.now then cover_of covers.old.items x else o)) }
+{
+    let mut shadows = Vec::with_capacity(alloc, names.len())?;
+    for name in names {
+        let cover = find_cover(covers, *name);
+        shadows.push(Shadow { name: *name, cover })?;
+        let entry = Cover {
+            function: now,
+            captured: false,
+        };
+        put_cover(covers, *name, Some(entry))?;
+    }
+    Ok(shadows)
+}
+
+/// Puts back what covered the names before a scope.
+pub(crate) fn leave(covers: &mut Vec<Option<Cover>>, mut shadows: Vec<Shadow>) -> Result<(), Memory>
+    ensures { OnOk result ((x : ℕ) → cover_of covers.new.items x ≡ restored shadows.items x (cover_of covers.old.items x)) }
+{
+    while let Some(shadow) = shadows.pop() {
+        put_cover(covers, shadow.name, shadow.cover)?;
+    }
+    Ok(())
+}
+
+/// The name of an entry.
+fn name_of_entry(entry: &Value) -> Option<u32>
+    ensures { result ≡ entry_name (datum entry.now) }
+{
+    match entry {
+        Value::Node(node) => first_name_of(node.fields()),
+        _ => None,
+    }
+}
+
+/// The names of entries.
+fn names_of(alloc: Global, entries: &[Value]) -> Result<Vec<u32>, Memory>
+    ensures { IfOk result (λ r. r.items ≡ names_among (data_of entries.now)) }
+{
+    let mut names = Vec::with_capacity(alloc, entries.len())?;
+    for entry in entries {
+        if let Some(name) = name_of_entry(entry) {
+            names.push(name)?;
+        }
+    }
+    Ok(names)
+}
+
+/// The names of the entries of a scope.
+pub(crate) fn names_of_scope(alloc: Global, scope: &Value) -> Result<Vec<u32>, Memory>
+    ensures { IfOk result (λ r. r.items ≡ entry_names (datum scope.now)) }
+{
+    match scope {
+        Value::Node(node) => match node.fields() {
+            [] => Ok(Vec::new(alloc)),
+            [first, ..] => match first {
+                Value::List(entries) => names_of(alloc, entries.as_slice()),
+                _ => Ok(Vec::new(alloc)),
+            },
+        },
+        _ => Ok(Vec::new(alloc)),
+    }
+}
