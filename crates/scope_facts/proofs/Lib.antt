@@ -7,3 +7,5 @@ pub mod FilledItems
 pub mod Shadows
 pub mod FlaggedTyped
 pub mod Nearest
+pub mod FlaggedItems
+pub mod Touched

@@ -1,8 +1,10 @@
 -- What a walk knows of the names at a place, name by name: the innermost entry that covers the place.
-use Rattle.std.specs.Prelude.{ℕ, Bool, true, false, ◌&&◌, ◌||◌, ◌++◌, ◌≡◌, not, nat_eq, nat_lt, if◌then◌else◌, Option, None, Some, List, [], ◌∷◌, get_or, option_to_list}
+use Rattle.std.specs.Prelude.{ℕ, Bool, true, false, ◌&&◌, ◌||◌, ◌++◌, ◌≡◌, ◌+◌, not, nat_eq, nat_lt, if◌then◌else◌, Option, None, Some, List, [], ◌∷◌, get_or, option_to_list}
 use Rattle.std.specs.List.{list_any}
 use Rattle.bast_schema.specs.Tree.{Tree, branch, Datum, child, absent, listed, flag, index, whole, name, no_name, choice, window, Data, none, more}
 use Rattle.scope_facts.specs.Uses.{first_name}
+use Rattle.scope_facts.specs.declared.roles.Part.{Part}
+use Rattle.scope_facts.specs.declared.roles.Part.TheVariants.{Scope, Use, Call, Function, Other}
 use Rattle.scope_facts.specs.declared.covers.Cover.{Cover}
 use Rattle.scope_facts.specs.declared.covers.Shadow.{Shadow}
 
@@ -51,3 +53,12 @@ entry_names _ = []
 abbrev pub restored : List Shadow → ℕ → Option Cover → Option Cover
 restored [] x o = o
 restored (a ∷ others) x o = if nat_eq a.name x then a.cover else restored others x o
+
+-- how many functions are around what is inside a node
+abbrev pub inside_now : Part → ℕ → ℕ
+inside_now Function now = now + 1
+inside_now _ now = now
+
+-- what a piece of a program does to all covers
+pub record Touches (u c : ℕ → Bool) (now : ℕ) (old new : List (Option Cover)) : Type 0 where
+  pub all : (x : ℕ) → cover_of new x ≡ touched (u x) (c x) now (cover_of old x)

@@ -13,7 +13,7 @@ use std::alloc::Global;
 pub(crate) struct Cover {
     /// How many functions are around the entry's scope.
     function: u32,
-    captured: bool,
+    pub(crate) captured: bool,
 }
 
 /// What covered a name before a scope had an entry of it.

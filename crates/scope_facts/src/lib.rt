@@ -5,6 +5,8 @@
 mod covers;
 mod entries;
 mod filling;
+mod flagging;
+mod flags;
 mod names;
 mod repeats;
 mod roles;
