@@ -9,3 +9,5 @@ pub mod FlaggedTyped
 pub mod Nearest
 pub mod FlaggedItems
 pub mod Touched
+pub mod BareTyped
+pub mod BareItems

@@ -2,8 +2,10 @@
 //! direct eval may see them.
 #![tactic(auto)]
 
+mod bare;
 mod covers;
 mod entries;
+mod exact_scopes;
 mod filling;
 mod flagging;
 mod flags;
@@ -11,5 +13,7 @@ mod names;
 mod repeats;
 mod roles;
 
+pub use bare::plain;
+pub use exact_scopes::annotate;
 pub use names::{Declared, NameKind};
 pub use roles::{Form, Part, Shape, form_of, part_of, scope_shape};

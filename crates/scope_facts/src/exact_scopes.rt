@@ -1,0 +1,41 @@
+ghost use Rattle.std.specs.Prelude.{◌≡◌, ◌≤◌, ◌^◌, IfOk};
+ghost use Rattle.std.specs.Option.{option_map};
+ghost use Rattle.bast_schema.specs.Counts.{size};
+ghost use Rattle.scope_facts.specs.Exact.{eval_name, exact};
+
+use crate::filling::fill_node;
+use crate::flagging::flag_node;
+use bast_base::Memory;
+use bast_schema::Node;
+use std::alloc::Global;
+use string_table::StringTable;
+
+/// The name of the text `eval`, where the table has it.
+fn name_of_eval(strings: &StringTable) -> Option<u32>
+    ensures { result ≡ eval_name strings.now }
+{
+    match strings.find("eval") {
+        Some(name) => Some(name.0),
+        None => None,
+    }
+}
+
+/// The same tree with exact scopes, where its names are those of a table of strings.
+///
+/// Each scope gets an entry for each name that it declares, in the order of the declaring nodes, parameters by their
+/// places. An entry is captured where a use of its name inside a function has its nearest declaration in this scope and
+/// the scope is outside that function; a scope has a direct eval where one stands in what it covers. What the scopes of
+/// the tree said before does not count.
+///
+/// The time is about linear in the size of the tree, and the depth of the recursion is bounded by the tree's depth.
+pub fn annotate(alloc: Global, tree: Node, strings: &StringTable) -> Result<Node, Memory>
+    requires { size tree ≤ 2 ^ 28 }
+    ensures { IfOk result (λ t. t ≡ exact strings.now tree) }
+{
+    let eval = name_of_eval(strings);
+    let tree = fill_node(alloc, tree)?;
+    let _within_the_limit = tree.depth();
+    let mut covers = Vec::with_capacity(alloc, strings.len() as usize)?;
+    let (tree, _) = flag_node(alloc, eval, 0, &mut covers, tree)?;
+    Ok(tree)
+}
