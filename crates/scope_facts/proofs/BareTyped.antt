@@ -130,7 +130,7 @@ both : (a b : Bool) → a ≡ true → b ≡ true → (a && b) ≡ true
 both a b e f = rw (e, f) refl
 
 child_fits : (t : FieldType) (u v : Tree) → is_fair_type t ≡ true → ((w : Union) → is_fair w ≡ true → allowed w (kind_of u) ≡ true → allowed w (kind_of v) ≡ true) → (typed u ≡ true → typed v ≡ true)
-  → fits t (child u) ≡ true → fits (eager_type t) (child v) ≡ true
+    → fits t (child u) ≡ true → fits (eager_type t) (child v) ≡ true
 child_fits (field.Node w) u v r k h f = both (allowed w (kind_of v)) (typed v) (k w r (and_first (allowed w (kind_of u)) (typed u) f)) (h (and_second (allowed w (kind_of u)) (typed u) f))
 child_fits (field.Optional w) u v r k h f = both (allowed w (kind_of v)) (typed v) (k w r (and_first (allowed w (kind_of u)) (typed u) f)) (h (and_second (allowed w (kind_of u)) (typed u) f))
 child_fits (field.Lazy w) u v r k h f = both (allowed w (kind_of v)) (typed v) (k w r (and_first (allowed w (kind_of u)) (typed u) f)) (h (and_second (allowed w (kind_of u)) (typed u) f))
@@ -141,7 +141,7 @@ scope_fits t (child (branch k ds)) s r f = child_fits t (branch k ds) (branch k 
 scope_fits t _ s r f = cc
 
 list_fits : (t : FieldType) (ds es : Data) → is_none ds ≡ is_none es → is_fair_type t ≡ true → ((u : Union) (holes : Bool) → is_fair u ≡ true → items_fit u holes ds ≡ true → items_fit u holes es ≡ true)
-  → fits t (listed ds) ≡ true → fits (eager_type t) (listed es) ≡ true
+    → fits t (listed ds) ≡ true → fits (eager_type t) (listed es) ≡ true
 list_fits (field.List u holes filled) ds es n r h f = rw (← n, and_first (not filled || not (is_none ds)) (items_fit u holes ds) f, h u holes r (and_second (not filled || not (is_none ds)) (items_fit u holes ds) f)) refl
 list_fits _ ds es n r h f = cc
 
@@ -158,7 +158,7 @@ item_fair u true h = h
 item_fair u false h = h
 
 each_fits : (t : FieldType) (d : Datum) (b : Bool) → is_scope d ≡ b → is_fair_type t ≡ true → (fits t d ≡ true → fits (eager_type t) (bare_at d) ≡ true) → fits t d ≡ true
-  → fits (eager_type t) (if b then bare_scope d else bare_at d) ≡ true
+    → fits (eager_type t) (if b then bare_scope d else bare_at d) ≡ true
 each_fits t d true s r h f = scope_fits t d s r f
 each_fits t d false s r h f = h f
 
@@ -216,15 +216,15 @@ mutual
   bare_fit none (t ∷ ts) r w f = cc
   bare_fit (more d ds) [] r w f = cc
   bare_fit (more d ds) (t ∷ ts) r w f = both (fits (eager_type t) (if is_scope d then bare_scope d else bare_at d)) (fit (map eager_type ts) (bare_in ds))
-    (each_fits t d (is_scope d) refl (and_first (is_fair_type t) (list_all is_fair_type ts) r) (bare_fits d t (and_first (is_fair_type t) (list_all is_fair_type ts) r) (and_first (is_whole_at d) (is_whole_in ds) w)) (and_first (fits t d) (fit ts ds) f))
-    (bare_fit ds ts (and_second (is_fair_type t) (list_all is_fair_type ts) r) (and_second (is_whole_at d) (is_whole_in ds) w) (and_second (fits t d) (fit ts ds) f))
+      (each_fits t d (is_scope d) refl (and_first (is_fair_type t) (list_all is_fair_type ts) r) (bare_fits d t (and_first (is_fair_type t) (list_all is_fair_type ts) r) (and_first (is_whole_at d) (is_whole_in ds) w)) (and_first (fits t d) (fit ts ds) f))
+      (bare_fit ds ts (and_second (is_fair_type t) (list_all is_fair_type ts) r) (and_second (is_whole_at d) (is_whole_in ds) w) (and_second (fits t d) (fit ts ds) f))
 
   pub bare_items : (ds : Data) (u : Union) (holes : Bool) → is_fair u ≡ true → is_whole_in ds ≡ true → items_fit u holes ds ≡ true → items_fit u holes (bare_in ds) ≡ true
   bare_items none u holes r w f = refl
   bare_items (more d ds) u holes r w f = both (fits (item_type u holes) (if is_scope d then bare_scope d else bare_at d)) (items_fit u holes (bare_in ds))
-    (ap (λ t. fits t (if is_scope d then bare_scope d else bare_at d)) (sym (item_eager u holes)) ∙ each_fits (item_type u holes) d (is_scope d) refl (item_fair u holes r)
+      (ap (λ t. fits t (if is_scope d then bare_scope d else bare_at d)) (sym (item_eager u holes)) ∙ each_fits (item_type u holes) d (is_scope d) refl (item_fair u holes r)
       (bare_fits d (item_type u holes) (item_fair u holes r) (and_first (is_whole_at d) (is_whole_in ds) w)) (and_first (fits (item_type u holes) d) (items_fit u holes ds) f))
-    (bare_items ds u holes r (and_second (is_whole_at d) (is_whole_in ds) w) (and_second (fits (item_type u holes) d) (items_fit u holes ds) f))
+      (bare_items ds u holes r (and_second (is_whole_at d) (is_whole_in ds) w) (and_second (fits (item_type u holes) d) (items_fit u holes ds) f))
 
 scope_depth : (d : Datum) → is_scope d ≡ true → depth_at (bare_scope d) ≤ depth_at d
 scope_depth (child (branch k ds)) s = let e : depth (branch k (empty_fields (shape_of k))) ≡ 0 = empty_depth k s in omega (arith, e)
@@ -270,4 +270,4 @@ bare_made t j k ds es is ty d w je e =
     in let t1 : typed (branch k ds) ≡ true = from_is_true (typed (branch k ds)) (subst (λ u. IsTrue (typed u)) (sym is) ty)
     in let d1 : depth (branch k ds) ≤ 512 = subst (λ u. depth u ≤ 512) (sym is) d
     in made_where_fit j es (ap (λ q. fit (fields q) es) je ∙ ap (fit (fields (eager k))) e ∙ bare_typed (branch k ds) w1 t1)
-      (less_trans (depth (branch j es)) (depth (branch k ds)) (subst (λ q. depth q ≤ depth (branch k ds)) (ap (λ q. branch q (bare_in ds)) (sym je) ∙ ap (branch j) (sym e)) (bare_depth (branch k ds))) d1)
+    (less_trans (depth (branch j es)) (depth (branch k ds)) (subst (λ q. depth q ≤ depth (branch k ds)) (ap (λ q. branch q (bare_in ds)) (sym je) ∙ ap (branch j) (sym e)) (bare_depth (branch k ds))) d1)

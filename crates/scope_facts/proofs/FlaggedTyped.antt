@@ -207,8 +207,8 @@ from_is_true false h = cc
 
 made : (t : Tree) (k : Kind) (ds es : Data) → branch k ds ≡ t → IsTrue (typed t) → depth t ≤ 512 → fit (fields k) es ≡ fit (fields k) ds → depth_in es ≡ depth_in ds → node_of k es ≡ Ok (branch k es)
 made t k ds es is ty d f g = made_where_fit k es
-  (f ∙ from_is_true (typed (branch k ds)) (subst (λ u. IsTrue (typed u)) (sym is) ty))
-  (let h : depth (branch k ds) ≤ 512 = subst (λ u. depth u ≤ 512) (sym is) d in rw g h)
+    (f ∙ from_is_true (typed (branch k ds)) (subst (λ u. IsTrue (typed u)) (sym is) ty))
+    (let h : depth (branch k ds) ≤ 512 = subst (λ u. depth u ≤ 512) (sym is) d in rw g h)
 
 -- a node with its flag set is made
 pub flag_made : (t : Tree) (b : Bool) (k : Kind) (ds es : Data) → branch k ds ≡ t → IsTrue (typed t) → depth t ≤ 512 → es ≡ with_flag b ds → node_of k es ≡ Ok (branch k es)

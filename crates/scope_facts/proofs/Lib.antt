@@ -11,3 +11,6 @@ pub mod FlaggedItems
 pub mod Touched
 pub mod BareTyped
 pub mod BareItems
+pub mod Escapes
+pub mod BareSame
+pub mod Kept

@@ -24,7 +24,7 @@ weaker_or : (c : Bool) → (c || not true) ≡ true → (c || not false) ≡ tru
 weaker_or true e = refl
 weaker_or false e = cc
 
-weaker_found : (b c : Bool) (o p : Option Near) → (fine o ≡ true → fine p ≡ true) → fine (if b then Some (record {captured = c; outside = true}) else o) ≡ true → fine (if b then Some (record {captured = c; outside = false}) else p) ≡ true
+weaker_found : (b c : Bool) (o p : Option Near) → (fine o ≡ true → fine p ≡ true) → fine (if b then Some (record { captured = c; outside = true }) else o) ≡ true → fine (if b then Some (record { captured = c; outside = false }) else p) ≡ true
 weaker_found true c o p h e = weaker_or c e
 weaker_found false c o p h e = h e
 
@@ -44,11 +44,11 @@ name_is fs x None e u = cc
 name_is fs x (Some n) e u = let same : n ≡ x = grind arith in (rw same at e)
 
 in_node : (fs : List Frame) (x : ℕ) (p : Part) (ds : Data)
-  → ((gs : List Frame) → respects_in gs ds ≡ true → used_in x ds ≡ true → fine (nearest gs x false) ≡ true)
-  → (fine_use fs p ds && respects_in (inside p fs) ds) ≡ true → (is_use_of x p ds || used_in x ds) ≡ true → fine (nearest fs x false) ≡ true
+    → ((gs : List Frame) → respects_in gs ds ≡ true → used_in x ds ≡ true → fine (nearest gs x false) ≡ true)
+    → (fine_use fs p ds && respects_in (inside p fs) ds) ≡ true → (is_use_of x p ds || used_in x ds) ≡ true → fine (nearest fs x false) ≡ true
 in_node fs x Use ds ih r u = or_cases (is_name x (first_name ds)) (used_in x ds) (fine (nearest fs x false)) u
-  (name_is fs x (first_name ds) (and_left (fine_name fs (first_name ds)) (respects_in fs ds) r))
-  (ih fs (and_right (fine_name fs (first_name ds)) (respects_in fs ds) r))
+    (name_is fs x (first_name ds) (and_left (fine_name fs (first_name ds)) (respects_in fs ds) r))
+    (ih fs (and_right (fine_name fs (first_name ds)) (respects_in fs ds) r))
 in_node fs x Function ds ih r u = fine_weaker fs x (ih (begins ∷ fs) r u)
 in_node fs x Scope ds ih r u = ih fs r u
 in_node fs x Call ds ih r u = ih fs r u
@@ -56,11 +56,11 @@ in_node fs x Other ds ih r u = ih fs r u
 
 -- a field: b says whether it is a scope, c whether it declares the name
 in_field : (fs gs : List Frame) (x : ℕ) (out b c r0 r1 r2 u0 u1 : Bool)
-  → (c ≡ false → nearest gs x out ≡ nearest fs x out)
-  → (r0 ≡ true → u1 ≡ true → fine (nearest gs x out) ≡ true)
-  → (r1 ≡ true → u0 ≡ true → fine (nearest fs x out) ≡ true)
-  → (r2 ≡ true → u1 ≡ true → fine (nearest fs x out) ≡ true)
-  → (if b then r0 else r1 && r2) ≡ true → (if b then not c && u1 else u0 || u1) ≡ true → fine (nearest fs x out) ≡ true
+    → (c ≡ false → nearest gs x out ≡ nearest fs x out)
+    → (r0 ≡ true → u1 ≡ true → fine (nearest gs x out) ≡ true)
+    → (r1 ≡ true → u0 ≡ true → fine (nearest fs x out) ≡ true)
+    → (r2 ≡ true → u1 ≡ true → fine (nearest fs x out) ≡ true)
+    → (if b then r0 else r1 && r2) ≡ true → (if b then not c && u1 else u0 || u1) ≡ true → fine (nearest fs x out) ≡ true
 in_field fs gs x out true true r0 r1 r2 u0 u1 passes ih0 ih1 ih2 r u = cc
 in_field fs gs x out true false r0 r1 r2 u0 u1 passes ih0 ih1 ih2 r u = ap fine (sym (passes refl)) ∙ ih0 r u
 in_field fs gs x out false c r0 r1 r2 u0 u1 passes ih0 ih1 ih2 r u = or_cases u0 u1 (fine (nearest fs x out)) u (ih1 (and_left r1 r2 r)) (ih2 (and_right r1 r2 r))
@@ -78,17 +78,17 @@ mutual
   pub uses_fine_in : (x : ℕ) (ds : Data) (fs : List Frame) → respects_in fs ds ≡ true → used_in x ds ≡ true → fine (nearest fs x false) ≡ true
   uses_fine_in x none fs r u = cc
   uses_fine_in x (more d ds) fs r u = in_field fs (frame d ∷ fs) x false (is_scope d) (declares x d) (respects_in (frame d ∷ fs) ds) (respects_at fs d) (respects_in fs ds) (used_at x d) (used_in x ds)
-    (nearest_passes d fs x false) (uses_fine_in x ds (frame d ∷ fs)) (uses_fine_at x d fs) (uses_fine_in x ds fs) r u
+      (nearest_passes d fs x false) (uses_fine_in x ds (frame d ∷ fs)) (uses_fine_at x d fs) (uses_fine_in x ds fs) r u
 
   pub uses_fine_among : (x : ℕ) (ds : Data) (fs : List Frame) → respects_among fs ds ≡ true → used_among x ds ≡ true → fine (nearest fs x false) ≡ true
   uses_fine_among x none fs r u = cc
   uses_fine_among x (more d ds) fs r u = or_cases (used_at x d) (used_among x ds) (fine (nearest fs x false)) u
-    (uses_fine_at x d fs (and_left (respects_at fs d) (respects_among fs ds) r))
-    (uses_fine_among x ds fs (and_right (respects_at fs d) (respects_among fs ds) r))
+      (uses_fine_at x d fs (and_left (respects_at fs d) (respects_among fs ds) r))
+      (uses_fine_among x ds fs (and_right (respects_at fs d) (respects_among fs ds) r))
 
 in_node_crossed : (fs : List Frame) (x : ℕ) (p : Part) (ds : Data)
-  → ((gs : List Frame) → respects_in gs ds ≡ true → crossed_in x ds ≡ true → fine (nearest gs x true) ≡ true)
-  → (fine_use fs p ds && respects_in (inside p fs) ds) ≡ true → (if is_function p then used_in x ds else crossed_in x ds) ≡ true → fine (nearest fs x true) ≡ true
+    → ((gs : List Frame) → respects_in gs ds ≡ true → crossed_in x ds ≡ true → fine (nearest gs x true) ≡ true)
+    → (fine_use fs p ds && respects_in (inside p fs) ds) ≡ true → (if is_function p then used_in x ds else crossed_in x ds) ≡ true → fine (nearest fs x true) ≡ true
 in_node_crossed fs x Use ds ih r u = ih fs (and_right (fine_name fs (first_name ds)) (respects_in fs ds) r) u
 in_node_crossed fs x Function ds ih r u = uses_fine_in x ds (begins ∷ fs) r u
 in_node_crossed fs x Scope ds ih r u = ih fs r u
@@ -108,13 +108,13 @@ mutual
   pub crossed_fine_in : (x : ℕ) (ds : Data) (fs : List Frame) → respects_in fs ds ≡ true → crossed_in x ds ≡ true → fine (nearest fs x true) ≡ true
   crossed_fine_in x none fs r u = cc
   crossed_fine_in x (more d ds) fs r u = in_field fs (frame d ∷ fs) x true (is_scope d) (declares x d) (respects_in (frame d ∷ fs) ds) (respects_at fs d) (respects_in fs ds) (crossed_at x d) (crossed_in x ds)
-    (nearest_passes d fs x true) (crossed_fine_in x ds (frame d ∷ fs)) (crossed_fine_at x d fs) (crossed_fine_in x ds fs) r u
+      (nearest_passes d fs x true) (crossed_fine_in x ds (frame d ∷ fs)) (crossed_fine_at x d fs) (crossed_fine_in x ds fs) r u
 
   pub crossed_fine_among : (x : ℕ) (ds : Data) (fs : List Frame) → respects_among fs ds ≡ true → crossed_among x ds ≡ true → fine (nearest fs x true) ≡ true
   crossed_fine_among x none fs r u = cc
   crossed_fine_among x (more d ds) fs r u = or_cases (crossed_at x d) (crossed_among x ds) (fine (nearest fs x true)) u
-    (crossed_fine_at x d fs (and_left (respects_at fs d) (respects_among fs ds) r))
-    (crossed_fine_among x ds fs (and_right (respects_at fs d) (respects_among fs ds) r))
+      (crossed_fine_at x d fs (and_left (respects_at fs d) (respects_among fs ds) r))
+      (crossed_fine_among x ds fs (and_right (respects_at fs d) (respects_among fs ds) r))
 
 or_right : (a b : Bool) → b ≡ true → (a || b) ≡ true
 or_right true b e = refl
@@ -188,8 +188,8 @@ kept_all_at _ x after e c = refl
 kept_all : (es : Data) (x : ℕ) (after : Data) → kept_entries es after ≡ true → crossed_in x after ≡ true → all_captured x es ≡ true
 kept_all none x after e c = refl
 kept_all (more d es) x after e c = and_both (all_captured_at x d) (all_captured x es)
-  (kept_all_at d x after (and_left (kept_entry d after) (kept_entries es after) e) c)
-  (kept_all es x after (and_right (kept_entry d after) (kept_entries es after) e) c)
+    (kept_all_at d x after (and_left (kept_entry d after) (kept_entries es after) e) c)
+    (kept_all es x after (and_right (kept_entry d after) (kept_entries es after) e) c)
 
 found_kept : (d : Datum) (fs : List Frame) (x : ℕ) (after : Data) → kept_scope d after ≡ true → crossed_in x after ≡ true → declares x d ≡ true → fine (nearest (frame d ∷ fs) x true) ≡ true
 found_kept (child (branch k (more (listed es) ds))) fs x after e c is = rw (is, kept_all es x after e c) refl
@@ -204,31 +204,31 @@ below_crossed d fs x after true is k c h = found_kept d fs x after k c is
 below_crossed d fs x after false is k c h = ap fine (nearest_passes d fs x true is) ∙ h c
 
 node_respects : (fs : List Frame) (p : Part) (ds : Data)
-  → ((gs : List Frame) → ((x : ℕ) → used_in x ds ≡ true → fine (nearest gs x false) ≡ true) → ((x : ℕ) → crossed_in x ds ≡ true → fine (nearest gs x true) ≡ true) → respects_in gs ds ≡ true)
-  → ((x : ℕ) → (is_use_of x p ds || used_in x ds) ≡ true → fine (nearest fs x false) ≡ true)
-  → ((x : ℕ) → (if is_function p then used_in x ds else crossed_in x ds) ≡ true → fine (nearest fs x true) ≡ true)
-  → (fine_use fs p ds && respects_in (inside p fs) ds) ≡ true
+    → ((gs : List Frame) → ((x : ℕ) → used_in x ds ≡ true → fine (nearest gs x false) ≡ true) → ((x : ℕ) → crossed_in x ds ≡ true → fine (nearest gs x true) ≡ true) → respects_in gs ds ≡ true)
+    → ((x : ℕ) → (is_use_of x p ds || used_in x ds) ≡ true → fine (nearest fs x false) ≡ true)
+    → ((x : ℕ) → (if is_function p then used_in x ds else crossed_in x ds) ≡ true → fine (nearest fs x true) ≡ true)
+    → (fine_use fs p ds && respects_in (inside p fs) ds) ≡ true
 node_respects fs Use ds ih u c = and_both (fine_name fs (first_name ds)) (respects_in fs ds)
-  (name_fine fs (first_name ds) (λ x e. u x (or_left (is_name x (first_name ds)) (used_in x ds) e)))
-  (ih fs (λ x e. u x (or_right (is_name x (first_name ds)) (used_in x ds) e)) c)
+    (name_fine fs (first_name ds) (λ x e. u x (or_left (is_name x (first_name ds)) (used_in x ds) e)))
+    (ih fs (λ x e. u x (or_right (is_name x (first_name ds)) (used_in x ds) e)) c)
 node_respects fs Function ds ih u c = ih (begins ∷ fs) c (λ x e. c x (crossed_used_in x ds e))
 node_respects fs Scope ds ih u c = ih fs u c
 node_respects fs Call ds ih u c = ih fs u c
 node_respects fs Other ds ih u c = ih fs u c
 
 field_respects : (fs : List Frame) (d : Datum) (ds : Data) (b : Bool)
-  → ((gs : List Frame) → ((x : ℕ) → used_in x ds ≡ true → fine (nearest gs x false) ≡ true) → ((x : ℕ) → crossed_in x ds ≡ true → fine (nearest gs x true) ≡ true) → respects_in gs ds ≡ true)
-  → (kept_at d ≡ true → ((x : ℕ) → used_at x d ≡ true → fine (nearest fs x false) ≡ true) → ((x : ℕ) → crossed_at x d ≡ true → fine (nearest fs x true) ≡ true) → respects_at fs d ≡ true)
-  → (if b then kept_scope d ds else kept_at d) ≡ true
-  → ((x : ℕ) → (if b then not (declares x d) && used_in x ds else used_at x d || used_in x ds) ≡ true → fine (nearest fs x false) ≡ true)
-  → ((x : ℕ) → (if b then not (declares x d) && crossed_in x ds else crossed_at x d || crossed_in x ds) ≡ true → fine (nearest fs x true) ≡ true)
-  → (if b then respects_in (frame d ∷ fs) ds else respects_at fs d && respects_in fs ds) ≡ true
+    → ((gs : List Frame) → ((x : ℕ) → used_in x ds ≡ true → fine (nearest gs x false) ≡ true) → ((x : ℕ) → crossed_in x ds ≡ true → fine (nearest gs x true) ≡ true) → respects_in gs ds ≡ true)
+    → (kept_at d ≡ true → ((x : ℕ) → used_at x d ≡ true → fine (nearest fs x false) ≡ true) → ((x : ℕ) → crossed_at x d ≡ true → fine (nearest fs x true) ≡ true) → respects_at fs d ≡ true)
+    → (if b then kept_scope d ds else kept_at d) ≡ true
+    → ((x : ℕ) → (if b then not (declares x d) && used_in x ds else used_at x d || used_in x ds) ≡ true → fine (nearest fs x false) ≡ true)
+    → ((x : ℕ) → (if b then not (declares x d) && crossed_in x ds else crossed_at x d || crossed_in x ds) ≡ true → fine (nearest fs x true) ≡ true)
+    → (if b then respects_in (frame d ∷ fs) ds else respects_at fs d && respects_in fs ds) ≡ true
 field_respects fs d ds true ih ih_at k u c = ih (frame d ∷ fs)
-  (λ x e. below_used d fs x (declares x d) (used_in x ds) refl e (u x))
-  (λ x e. below_crossed d fs x ds (declares x d) refl k e (c x))
+    (λ x e. below_used d fs x (declares x d) (used_in x ds) refl e (u x))
+    (λ x e. below_crossed d fs x ds (declares x d) refl k e (c x))
 field_respects fs d ds false ih ih_at k u c = and_both (respects_at fs d) (respects_in fs ds)
-  (ih_at k (λ x e. u x (or_left (used_at x d) (used_in x ds) e)) (λ x e. c x (or_left (crossed_at x d) (crossed_in x ds) e)))
-  (ih fs (λ x e. u x (or_right (used_at x d) (used_in x ds) e)) (λ x e. c x (or_right (crossed_at x d) (crossed_in x ds) e)))
+    (ih_at k (λ x e. u x (or_left (used_at x d) (used_in x ds) e)) (λ x e. c x (or_left (crossed_at x d) (crossed_in x ds) e)))
+    (ih fs (λ x e. u x (or_right (used_at x d) (used_in x ds) e)) (λ x e. c x (or_right (crossed_at x d) (crossed_in x ds) e)))
 
 -- where entries below are kept, and the uses that are left over are fine above, all uses are fine
 mutual
@@ -243,12 +243,12 @@ mutual
   pub uses_respect_in : (ds : Data) (fs : List Frame) → kept_in ds ≡ true → ((x : ℕ) → used_in x ds ≡ true → fine (nearest fs x false) ≡ true) → ((x : ℕ) → crossed_in x ds ≡ true → fine (nearest fs x true) ≡ true) → respects_in fs ds ≡ true
   uses_respect_in none fs e u c = refl
   uses_respect_in (more d ds) fs e u c = field_respects fs d ds (is_scope d)
-    (λ gs. uses_respect_in ds gs (and_right (if is_scope d then kept_scope d ds else kept_at d) (kept_in ds) e))
-    (uses_respect_at d fs)
-    (and_left (if is_scope d then kept_scope d ds else kept_at d) (kept_in ds) e) u c
+      (λ gs. uses_respect_in ds gs (and_right (if is_scope d then kept_scope d ds else kept_at d) (kept_in ds) e))
+      (uses_respect_at d fs)
+      (and_left (if is_scope d then kept_scope d ds else kept_at d) (kept_in ds) e) u c
 
   pub uses_respect_among : (ds : Data) (fs : List Frame) → kept_among ds ≡ true → ((x : ℕ) → used_among x ds ≡ true → fine (nearest fs x false) ≡ true) → ((x : ℕ) → crossed_among x ds ≡ true → fine (nearest fs x true) ≡ true) → respects_among fs ds ≡ true
   uses_respect_among none fs e u c = refl
   uses_respect_among (more d ds) fs e u c = and_both (respects_at fs d) (respects_among fs ds)
-    (uses_respect_at d fs (and_left (kept_at d) (kept_among ds) e) (λ x f. u x (or_left (used_at x d) (used_among x ds) f)) (λ x f. c x (or_left (crossed_at x d) (crossed_among x ds) f)))
-    (uses_respect_among ds fs (and_right (kept_at d) (kept_among ds) e) (λ x f. u x (or_right (used_at x d) (used_among x ds) f)) (λ x f. c x (or_right (crossed_at x d) (crossed_among x ds) f)))
+      (uses_respect_at d fs (and_left (kept_at d) (kept_among ds) e) (λ x f. u x (or_left (used_at x d) (used_among x ds) f)) (λ x f. c x (or_left (crossed_at x d) (crossed_among x ds) f)))
+      (uses_respect_among ds fs (and_right (kept_at d) (kept_among ds) e) (λ x f. u x (or_right (used_at x d) (used_among x ds) f)) (λ x f. c x (or_right (crossed_at x d) (crossed_among x ds) f)))

@@ -33,7 +33,7 @@ entered false false o p q e = e
 
 -- one more name of a scope
 pub cover_entered : (x : ℕ) (ns : List ℕ) (i : ℕ) (o p q r : Option Cover) → i < length ns → q ≡ (if has_name x (take i ns) then o else p) → r ≡ (if nat_eq (get_or ns i 0) x then o else q)
-  → r ≡ (if has_name x (take (i + 1) ns) then o else p)
+    → r ≡ (if has_name x (take (i + 1) ns) then o else p)
 cover_entered x ns i o p q r h e f = f ∙ entered (has_name x (take i ns)) (nat_eq (get_or ns i 0) x) o p q e ∙ ap (λ b. if b then o else p) (sym (has_take x ns i h))
 
 same_cover : (n x : ℕ) (b : Bool) (f : ℕ → Option Cover) → nat_eq n x ≡ b → (p o : Option Cover) → f x ≡ p → (if b then f n else o) ≡ (if b then p else o)
@@ -51,9 +51,9 @@ not_entered false o p q e f = e
 
 -- what is kept for one more name
 pub shadow_entered : (x : ℕ) (ns : List ℕ) (i : ℕ) (shadows : List Shadow) (s : Shadow) (f : ℕ → Option Cover) (e p o : Option Cover) → i < length ns
-  → s.name ≡ get_or ns i 0 → s.cover ≡ f (get_or ns i 0) → f x ≡ (if has_name x (take i ns) then e else p)
-  → ((y : Option Cover) → restored shadows x y ≡ (if has_name x (take i ns) then p else y))
-  → restored (shadows ++ s ∷ []) x o ≡ (if has_name x (take (i + 1) ns) then p else o)
+    → s.name ≡ get_or ns i 0 → s.cover ≡ f (get_or ns i 0) → f x ≡ (if has_name x (take i ns) then e else p)
+    → ((y : Option Cover) → restored shadows x y ≡ (if has_name x (take i ns) then p else y))
+    → restored (shadows ++ s ∷ []) x o ≡ (if has_name x (take (i + 1) ns) then p else o)
 shadow_entered x ns i shadows s f e p o h sn sc fe r =
     restored_last shadows s x o
     ∙ ap (λ n. restored shadows x (if nat_eq n x then s.cover else o)) sn

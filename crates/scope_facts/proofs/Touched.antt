@@ -25,7 +25,7 @@ or_false false = refl
 
 untouched : (now : ℕ) (o : Option Cover) → touched false false now o ≡ o
 untouched now None = refl
-untouched now (Some e) = ap (λ b. Some (record {function = e.function; captured = b})) (or_false e.captured)
+untouched now (Some e) = ap (λ b. Some (record { function = e.function; captured = b })) (or_false e.captured)
 
 caught : (p d v l c u : Bool) → ((p || (d || (v && l))) || (c || (u && l))) ≡ (p || ((d || c) || ((v || u) && l)))
 caught true d v l c u = refl
@@ -39,20 +39,20 @@ caught false false false l c u = refl
 
 touched_twice : (u c v d : Bool) (now : ℕ) (o : Option Cover) → touched u c now (touched v d now o) ≡ touched (v || u) (d || c) now o
 touched_twice u c v d now None = refl
-touched_twice u c v d now (Some e) = ap (λ b. Some (record {function = e.function; captured = b})) (caught e.captured d v (nat_lt e.function now) c u)
+touched_twice u c v d now (Some e) = ap (λ b. Some (record { function = e.function; captured = b })) (caught e.captured d v (nat_lt e.function now) c u)
 
 pub touches_none : (now : ℕ) (cs : List (Option Cover)) → Touches (λ x. false) (λ x. false) now cs cs
-touches_none now cs = record {all = λ x. sym (untouched now (cover_of cs x))}
+touches_none now cs = record { all = λ x. sym (untouched now (cover_of cs x)) }
 
 pub touches_both : (v d u c : ℕ → Bool) (now : ℕ) (cs ds es : List (Option Cover)) → Touches v d now cs ds → Touches u c now ds es → Touches (λ x. v x || u x) (λ x. d x || c x) now cs es
-touches_both v d u c now cs ds es s t = record {all = λ x. t.all x ∙ ap (touched (u x) (c x) now) (s.all x) ∙ touched_twice (u x) (c x) (v x) (d x) now (cover_of cs x)}
+touches_both v d u c now cs ds es s t = record { all = λ x. t.all x ∙ ap (touched (u x) (c x) now) (s.all x) ∙ touched_twice (u x) (c x) (v x) (d x) now (cover_of cs x) }
 
 within_touched : (n m : ℕ) (u c : Bool) (o : Option Cover) → is_within n (touched u c m o) ≡ is_within n o
 within_touched n m u c None = refl
 within_touched n m u c (Some e) = refl
 
 pub within_after : (n m : ℕ) (u c : ℕ → Bool) (cs ds : List (Option Cover)) → AreWithin n cs → Touches u c m cs ds → AreWithin n ds
-within_after n m u c cs ds w t = record {all = λ x. ap (is_within n) (t.all x) ∙ within_touched n m (u x) (c x) (cover_of cs x) ∙ w.all x}
+within_after n m u c cs ds w t = record { all = λ x. ap (is_within n) (t.all x) ∙ within_touched n m (u x) (c x) (cover_of cs x) ∙ w.all x }
 
 one_more : (n m : ℕ) → not (nat_lt n m) ≡ true → not (nat_lt (n + 1) m) ≡ true
 one_more n m h = grind (arith, nat_tests)
@@ -62,7 +62,7 @@ within_more n None h = refl
 within_more n (Some e) h = one_more n e.function h
 
 pub within_inside : (p : Part) (n : ℕ) (cs : List (Option Cover)) → AreWithin n cs → AreWithin (inside_now p n) cs
-within_inside Function n cs w = record {all = λ x. within_more n (cover_of cs x) (w.all x)}
+within_inside Function n cs w = record { all = λ x. within_more n (cover_of cs x) (w.all x) }
 within_inside Scope n cs w = w
 within_inside Use n cs w = w
 within_inside Call n cs w = w
@@ -71,13 +71,13 @@ within_inside Other n cs w = w
 not_less : (n : ℕ) → nat_lt n n ≡ false
 not_less n = grind (arith, nat_tests)
 
-within_entered : (b : Bool) (n : ℕ) (o : Option Cover) → is_within n o ≡ true → is_within n (if b then Some (record {function = n; captured = false}) else o) ≡ true
+within_entered : (b : Bool) (n : ℕ) (o : Option Cover) → is_within n o ≡ true → is_within n (if b then Some (record { function = n; captured = false }) else o) ≡ true
 within_entered true n o h = ap not (not_less n)
 within_entered false n o h = h
 
 pub within_enter : (n : ℕ) (ns : List ℕ) (cs ds : List (Option Cover)) → AreWithin n cs
-  → ((x : ℕ) → cover_of ds x ≡ (if has_name x ns then Some (record {function = n; captured = false}) else cover_of cs x)) → AreWithin n ds
-within_enter n ns cs ds w h = record {all = λ x. ap (is_within n) (h x) ∙ within_entered (has_name x ns) n (cover_of cs x) (w.all x)}
+    → ((x : ℕ) → cover_of ds x ≡ (if has_name x ns then Some (record { function = n; captured = false }) else cover_of cs x)) → AreWithin n ds
+within_enter n ns cs ds w h = record { all = λ x. ap (is_within n) (h x) ∙ within_entered (has_name x ns) n (cover_of cs x) (w.all x) }
 
 -- a node
 
@@ -93,10 +93,10 @@ less_more n m h = grind (arith, nat_tests)
 
 function_touched : (u c : Bool) (now : ℕ) (o : Option Cover) → (c ≡ true → u ≡ true) → is_within now o ≡ true → touched u c (now + 1) o ≡ touched u u now o
 function_touched u c now None h w = refl
-function_touched u c now (Some e) h w = ap (λ b. Some (record {function = e.function; captured = e.captured || (c || (u && b))})) (less_more now e.function w) ∙ ap (λ b. Some (record {function = e.function; captured = b})) (inner c u (nat_lt e.function now) e.captured h)
+function_touched u c now (Some e) h w = ap (λ b. Some (record { function = e.function; captured = e.captured || (c || (u && b)) })) (less_more now e.function w) ∙ ap (λ b. Some (record { function = e.function; captured = b })) (inner c u (nat_lt e.function now) e.captured h)
 
 node_touched : (p : Part) (now x : ℕ) (ds : Data) (o : Option Cover) → is_within now o ≡ true
-  → touched (used_in x ds) (crossed_in x ds) (inside_now p now) (touched (is_use_of x p ds) false now o) ≡ touched (is_use_of x p ds || used_in x ds) (if is_function p then used_in x ds else crossed_in x ds) now o
+    → touched (used_in x ds) (crossed_in x ds) (inside_now p now) (touched (is_use_of x p ds) false now o) ≡ touched (is_use_of x p ds || used_in x ds) (if is_function p then used_in x ds else crossed_in x ds) now o
 node_touched Function now x ds o w = ap (touched (used_in x ds) (crossed_in x ds) (now + 1)) (untouched now o) ∙ function_touched (used_in x ds) (crossed_in x ds) now o (crossed_used_in x ds) w
 node_touched Scope now x ds o w = touched_twice (used_in x ds) (crossed_in x ds) false false now o
 node_touched Use now x ds o w = touched_twice (used_in x ds) (crossed_in x ds) (is_name x (first_name ds)) false now o
@@ -104,16 +104,18 @@ node_touched Call now x ds o w = touched_twice (used_in x ds) (crossed_in x ds) 
 node_touched Other now x ds o w = touched_twice (used_in x ds) (crossed_in x ds) false false now o
 
 pub node_touches : (t : Tree) (k : Kind) (p : Part) (o : Option ℕ) (ds : Data) (now : ℕ) (os bs cs : List (Option Cover)) → branch k ds ≡ t → p ≡ part k → o ≡ first_name ds → AreWithin now os
-  → ((x : ℕ) → cover_of bs x ≡ touched (is_use_named x p o) false now (cover_of os x))
-  → Touches (λ x. used_in x ds) (λ x. crossed_in x ds) (inside_now p now) bs cs
-  → Touches (λ x. used x t) (λ x. crossed x t) now os cs
+    → ((x : ℕ) → cover_of bs x ≡ touched (is_use_named x p o) false now (cover_of os x))
+    → Touches (λ x. used_in x ds) (λ x. crossed_in x ds) (inside_now p now) bs cs
+    → Touches (λ x. used x t) (λ x. crossed x t) now os cs
 node_touches t k p o ds now os bs cs is pe oe w h s =
-    subst (λ u. Touches (λ x. used x u) (λ x. crossed x u) now os cs) is (record {all = λ x.
-      s.all x
-      ∙ ap (λ q. touched (used_in x ds) (crossed_in x ds) (inside_now p now) q) (h x)
-      ∙ ap (λ q. touched (used_in x ds) (crossed_in x ds) (inside_now p now) (touched (is_use_named x p q) false now (cover_of os x))) oe
-      ∙ ap (λ q. touched (used_in x ds) (crossed_in x ds) (inside_now q now) (touched (is_use_of x q ds) false now (cover_of os x))) pe
-      ∙ node_touched (part k) now x ds (cover_of os x) (w.all x)})
+    subst (λ u. Touches (λ x. used x u) (λ x. crossed x u) now os cs) is (record {
+      all = λ x.
+          s.all x
+          ∙ ap (λ q. touched (used_in x ds) (crossed_in x ds) (inside_now p now) q) (h x)
+          ∙ ap (λ q. touched (used_in x ds) (crossed_in x ds) (inside_now p now) (touched (is_use_named x p q) false now (cover_of os x))) oe
+          ∙ ap (λ q. touched (used_in x ds) (crossed_in x ds) (inside_now q now) (touched (is_use_of x q ds) false now (cover_of os x))) pe
+          ∙ node_touched (part k) now x ds (cover_of os x) (w.all x);
+    })
 
 function_counted : (k : Kind) → is_function (part k) ≡ true → counted k ≡ true
 function_counted FunctionContents h = refl
@@ -168,8 +170,8 @@ pub declares_named : (x : ℕ) (d : Datum) → declares x d ≡ has_name x (entr
 declares_named x (child (branch k (more (listed es) ds))) = entries_named x es
 declares_named x _ = refl
 
-left_scope : (h u c : Bool) (now : ℕ) (o p q r : Option Cover) → p ≡ (if h then Some (record {function = now; captured = false}) else o) → q ≡ touched u c now p → r ≡ (if h then o else q)
-  → r ≡ touched (not h && u) (not h && c) now o
+left_scope : (h u c : Bool) (now : ℕ) (o p q r : Option Cover) → p ≡ (if h then Some (record { function = now; captured = false }) else o) → q ≡ touched u c now p → r ≡ (if h then o else q)
+    → r ≡ touched (not h && u) (not h && c) now o
 left_scope true u c now o p q r e f g = g ∙ sym (untouched now o)
 left_scope false u c now o p q r e f g = g ∙ f ∙ ap (touched u c now) e
 
@@ -180,18 +182,20 @@ scope_crossed : (d : Datum) (ds : Data) (b : Bool) (x : ℕ) → is_scope d ≡ 
 scope_crossed d ds b x s e = rw (s, e) refl
 
 pub scope_touches : (d : Datum) (ds all : Data) (ns : List ℕ) (now : ℕ) (os bs cs es : List (Option Cover)) (shadows : List Shadow) → all ≡ more d ds → is_scope d ≡ true → ns ≡ entry_names d
-  → ((x : ℕ) → cover_of bs x ≡ (if has_name x ns then Some (record {function = now; captured = false}) else cover_of os x))
-  → ((x : ℕ) (o : Option Cover) → restored shadows x o ≡ (if has_name x ns then cover_of os x else o))
-  → Touches (λ x. used_in x ds) (λ x. crossed_in x ds) now bs cs
-  → ((x : ℕ) → cover_of es x ≡ restored shadows x (cover_of cs x))
-  → Touches (λ x. used_in x all) (λ x. crossed_in x all) now os es
+    → ((x : ℕ) → cover_of bs x ≡ (if has_name x ns then Some (record { function = now; captured = false }) else cover_of os x))
+    → ((x : ℕ) (o : Option Cover) → restored shadows x o ≡ (if has_name x ns then cover_of os x else o))
+    → Touches (λ x. used_in x ds) (λ x. crossed_in x ds) now bs cs
+    → ((x : ℕ) → cover_of es x ≡ restored shadows x (cover_of cs x))
+    → Touches (λ x. used_in x all) (λ x. crossed_in x all) now os es
 scope_touches d ds all ns now os bs cs es shadows is s ne entered kept t left =
-    subst (λ q. Touches (λ x. used_in x q) (λ x. crossed_in x q) now os es) (sym is) (record {all = λ x.
-      left_scope (has_name x ns) (used_in x ds) (crossed_in x ds) now (cover_of os x) (cover_of bs x) (cover_of cs x) (cover_of es x) (entered x) (t.all x) (left x ∙ kept x (cover_of cs x))
-      ∙ ap (λ m. touched (not (has_name x m) && used_in x ds) (not (has_name x m) && crossed_in x ds) now (cover_of os x)) ne
-      ∙ ap (λ b. touched (not b && used_in x ds) (not b && crossed_in x ds) now (cover_of os x)) (sym (declares_named x d))
-      ∙ ap (λ b. touched b (not (declares x d) && crossed_in x ds) now (cover_of os x)) (sym (scope_tests d ds (is_scope d) x refl s))
-      ∙ ap (λ b. touched (used_in x (more d ds)) b now (cover_of os x)) (sym (scope_crossed d ds (is_scope d) x refl s))})
+    subst (λ q. Touches (λ x. used_in x q) (λ x. crossed_in x q) now os es) (sym is) (record {
+      all = λ x.
+          left_scope (has_name x ns) (used_in x ds) (crossed_in x ds) now (cover_of os x) (cover_of bs x) (cover_of cs x) (cover_of es x) (entered x) (t.all x) (left x ∙ kept x (cover_of cs x))
+          ∙ ap (λ m. touched (not (has_name x m) && used_in x ds) (not (has_name x m) && crossed_in x ds) now (cover_of os x)) ne
+          ∙ ap (λ b. touched (not b && used_in x ds) (not b && crossed_in x ds) now (cover_of os x)) (sym (declares_named x d))
+          ∙ ap (λ b. touched b (not (declares x d) && crossed_in x ds) now (cover_of os x)) (sym (scope_tests d ds (is_scope d) x refl s))
+          ∙ ap (λ b. touched (used_in x (more d ds)) b now (cover_of os x)) (sym (scope_crossed d ds (is_scope d) x refl s));
+    })
 
 equal_names : (n : ℕ) → nat_eq n n ≡ true
 equal_names n = grind (arith, nat_tests)
@@ -226,7 +230,7 @@ nothing u true = refl
 nothing true false = refl
 nothing false false = refl
 
-caught_here : (now : ℕ) (u c : Bool) → is_caught (touched u c now (Some (record {function = now; captured = false}))) ≡ c
+caught_here : (now : ℕ) (u c : Bool) → is_caught (touched u c now (Some (record { function = now; captured = false }))) ≡ c
 caught_here now u c = ap (λ b. c || (u && b)) (not_less now) ∙ nothing u c
 
 pick : (b : Bool) (o p : Option Cover) → b ≡ true → (if b then o else p) ≡ o
@@ -234,31 +238,31 @@ pick true o p e = refl
 pick false o p e = cc
 
 pub scope_fields : (e : Option ℕ) (d v : Datum) (ds all rest out : Data) (b : Bool) (ns : List ℕ) (now : ℕ) (os bs cs : List (Option Cover)) → all ≡ more d ds → is_scope d ≡ true → ns ≡ entry_names d
-  → ((x : ℕ) → cover_of bs x ≡ (if has_name x ns then Some (record {function = now; captured = false}) else cover_of os x))
-  → Touches (λ x. used_in x ds) (λ x. crossed_in x ds) now bs cs
-  → b ≡ evals_in e ds → rest ≡ flagged_in e ds → v ≡ scope_by (λ x. is_caught (cover_of cs x)) b d → out ≡ more v rest → out ≡ flagged_in e all
+    → ((x : ℕ) → cover_of bs x ≡ (if has_name x ns then Some (record { function = now; captured = false }) else cover_of os x))
+    → Touches (λ x. used_in x ds) (λ x. crossed_in x ds) now bs cs
+    → b ≡ evals_in e ds → rest ≡ flagged_in e ds → v ≡ scope_by (λ x. is_caught (cover_of cs x)) b d → out ≡ more v rest → out ≡ flagged_in e all
 scope_fields e d v ds all rest out b ns now os bs cs is s ne entered t be re ve oe =
     let f : v ≡ flagged_scope e d ds = ve ∙ scope_same (λ x. is_caught (cover_of cs x)) (λ x. crossed_in x ds) b d (λ x i.
-          ap is_caught (t.all x)
-          ∙ ap (λ o. is_caught (touched (used_in x ds) (crossed_in x ds) now o)) (entered x ∙ pick (has_name x ns) (Some (record {function = now; captured = false})) (cover_of os x) (ap (has_name x) ne ∙ sym (declares_named x d) ∙ i))
-          ∙ caught_here now (used_in x ds) (crossed_in x ds)) ∙ ap (λ q. scope_by (λ x. crossed_in x ds) q d) be
+    ap is_caught (t.all x)
+    ∙ ap (λ o. is_caught (touched (used_in x ds) (crossed_in x ds) now o)) (entered x ∙ pick (has_name x ns) (Some (record { function = now; captured = false })) (cover_of os x) (ap (has_name x) ne ∙ sym (declares_named x d) ∙ i))
+    ∙ caught_here now (used_in x ds) (crossed_in x ds)) ∙ ap (λ q. scope_by (λ x. crossed_in x ds) q d) be
     in oe ∙ rw (is, s, f, re) refl
 
 -- a field that is no scope
 
 pub field_touches : (d : Datum) (ds all : Data) (now : ℕ) (os bs cs : List (Option Cover)) → all ≡ more d ds → is_scope d ≡ false
-  → Touches (λ x. used_at x d) (λ x. crossed_at x d) now os bs → Touches (λ x. used_in x ds) (λ x. crossed_in x ds) now bs cs
-  → Touches (λ x. used_in x all) (λ x. crossed_in x all) now os cs
+    → Touches (λ x. used_at x d) (λ x. crossed_at x d) now os bs → Touches (λ x. used_in x ds) (λ x. crossed_in x ds) now bs cs
+    → Touches (λ x. used_in x all) (λ x. crossed_in x all) now os cs
 field_touches d ds all now os bs cs is s h t =
     let r : Touches (λ x. used_at x d || used_in x ds) (λ x. crossed_at x d || crossed_in x ds) now os cs
-          = touches_both (λ x. used_at x d) (λ x. crossed_at x d) (λ x. used_in x ds) (λ x. crossed_in x ds) now os bs cs h t
-    in record {all = λ x. r.all x ∙ rw (is, s) refl}
+    = touches_both (λ x. used_at x d) (λ x. crossed_at x d) (λ x. used_in x ds) (λ x. crossed_in x ds) now os bs cs h t
+    in record { all = λ x. r.all x ∙ rw (is, s) refl }
 
 -- one more item of a list
 pub item_touches : (ys : List Value) (v : Value) (now : ℕ) (os bs cs : List (Option Cover))
-  → Touches (λ x. used_among x (data_of ys)) (λ x. crossed_among x (data_of ys)) now os bs → Touches (λ x. used_at x (datum v)) (λ x. crossed_at x (datum v)) now bs cs
-  → Touches (λ x. used_among x (data_of (ys ++ v ∷ []))) (λ x. crossed_among x (data_of (ys ++ v ∷ []))) now os cs
+    → Touches (λ x. used_among x (data_of ys)) (λ x. crossed_among x (data_of ys)) now os bs → Touches (λ x. used_at x (datum v)) (λ x. crossed_at x (datum v)) now bs cs
+    → Touches (λ x. used_among x (data_of (ys ++ v ∷ []))) (λ x. crossed_among x (data_of (ys ++ v ∷ []))) now os cs
 item_touches ys v now os bs cs h t =
     let r : Touches (λ x. used_among x (data_of ys) || used_at x (datum v)) (λ x. crossed_among x (data_of ys) || crossed_at x (datum v)) now os cs
-          = touches_both (λ x. used_among x (data_of ys)) (λ x. crossed_among x (data_of ys)) (λ x. used_at x (datum v)) (λ x. crossed_at x (datum v)) now os bs cs h t
-    in record {all = λ x. r.all x ∙ rw (used_last x ys v, crossed_last x ys v) refl}
+    = touches_both (λ x. used_among x (data_of ys)) (λ x. crossed_among x (data_of ys)) (λ x. used_at x (datum v)) (λ x. crossed_at x (datum v)) now os bs cs h t
+    in record { all = λ x. r.all x ∙ rw (used_last x ys v, crossed_last x ys v) refl }

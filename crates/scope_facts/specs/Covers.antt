@@ -15,7 +15,7 @@ cover_of cs x = get_or cs x None
 -- how many functions are around the piece
 abbrev pub touched : Bool → Bool → ℕ → Option Cover → Option Cover
 touched u c now None = None
-touched u c now (Some e) = Some (record {function = e.function; captured = e.captured || (c || (u && nat_lt e.function now))})
+touched u c now (Some e) = Some (record { function = e.function; captured = e.captured || (c || (u && nat_lt e.function now)) })
 
 abbrev pub is_caught : Option Cover → Bool
 is_caught None = false

@@ -5,6 +5,8 @@ pub mod Exact
 pub mod Filled
 pub mod Flagged
 pub mod Frames
+pub mod Laws
 pub mod Names
+pub mod Reading
 pub mod Roles
 pub mod Uses

@@ -71,8 +71,13 @@ pub(crate) fn use_name(covers: &mut Vec<Option<Cover>>, now: u32, name: u32) -> 
 }
 
 /// Covers names by the entries of a scope inside so many functions, and keeps what covered them before.
-pub(crate) fn enter(alloc: Global, covers: &mut Vec<Option<Cover>>, now: u32, names: &[u32]) -> Result<Vec<Shadow>, Memory>
-    ensures covers { OnOk result ((x : ℕ) → cover_of covers.new.items x ≡ (if has_name x names.now then Some (record {function = now; captured = false}) else cover_of covers.old.items x)) }
+pub(crate) fn enter(
+    alloc: Global,
+    covers: &mut Vec<Option<Cover>>,
+    now: u32,
+    names: &[u32],
+) -> Result<Vec<Shadow>, Memory>
+    ensures covers { OnOk result ((x : ℕ) → cover_of covers.new.items x ≡ (if has_name x names.now then Some (record { function = now; captured = false }) else cover_of covers.old.items x)) }
     ensures shadows { IfOk result (λ r. (x : ℕ) (o : Option Cover) → restored r.items x o ≡ (if has_name x names.now then cover_of covers.old.items x else o)) }
 {
     let mut shadows = Vec::with_capacity(alloc, names.len())?;

@@ -27,7 +27,13 @@ fn functions_inside(part: Part, now: u32) -> u32
 
 /// A node with the flags of its scopes set, and whether a direct eval is in it. The covers of its names are told of its uses.
 #[cycle(flag)]
-pub(crate) fn flag_node(alloc: Global, eval: Option<u32>, now: u32, covers: &mut Vec<Option<Cover>>, node: Node) -> Result<(Node, bool), Memory>
+pub(crate) fn flag_node(
+    alloc: Global,
+    eval: Option<u32>,
+    now: u32,
+    covers: &mut Vec<Option<Cover>>,
+    node: Node,
+) -> Result<(Node, bool), Memory>
     requires depth { now + depth node ≤ 512 }
     requires within { AreWithin now covers.old.items }
     ensures tree { IfOk result (λ r. r.0 ≡ flagged eval node) }
@@ -45,7 +51,13 @@ pub(crate) fn flag_node(alloc: Global, eval: Option<u32>, now: u32, covers: &mut
 
 /// The fields of a node with the flags of the scopes set, and whether a direct eval is in them.
 #[cycle(flag)]
-fn flag_fields(alloc: Global, eval: Option<u32>, now: u32, covers: &mut Vec<Option<Cover>>, mut fields: Vec<Value>) -> Result<(Vec<Value>, bool), Memory>
+fn flag_fields(
+    alloc: Global,
+    eval: Option<u32>,
+    now: u32,
+    covers: &mut Vec<Option<Cover>>,
+    mut fields: Vec<Value>,
+) -> Result<(Vec<Value>, bool), Memory>
     requires depth { now + depth_in (data_of fields.items) ≤ 512 }
     requires within { AreWithin now covers.old.items }
     ensures fields { IfOk result (λ r. data_of r.0.items ≡ flagged_in eval (data_of fields.items)) }
@@ -73,7 +85,13 @@ fn flag_fields(alloc: Global, eval: Option<u32>, now: u32, covers: &mut Vec<Opti
 
 /// A value with the flags of the scopes in it set, and whether a direct eval is in it.
 #[cycle(flag)]
-fn flag_value(alloc: Global, eval: Option<u32>, now: u32, covers: &mut Vec<Option<Cover>>, value: Value) -> Result<(Value, bool), Memory>
+fn flag_value(
+    alloc: Global,
+    eval: Option<u32>,
+    now: u32,
+    covers: &mut Vec<Option<Cover>>,
+    value: Value,
+) -> Result<(Value, bool), Memory>
     requires depth { now + depth_at (datum value) ≤ 512 }
     requires within { AreWithin now covers.old.items }
     ensures value { IfOk result (λ r. datum r.0 ≡ flagged_at eval (datum value)) }
@@ -95,7 +113,13 @@ fn flag_value(alloc: Global, eval: Option<u32>, now: u32, covers: &mut Vec<Optio
 
 /// The items of a list with the flags of the scopes in them set, and whether a direct eval is in them.
 #[cycle(flag)]
-fn flag_items(alloc: Global, eval: Option<u32>, now: u32, covers: &mut Vec<Option<Cover>>, values: Vec<Value>) -> Result<(Vec<Value>, bool), Memory>
+fn flag_items(
+    alloc: Global,
+    eval: Option<u32>,
+    now: u32,
+    covers: &mut Vec<Option<Cover>>,
+    values: Vec<Value>,
+) -> Result<(Vec<Value>, bool), Memory>
     requires depth { now + depth_in (data_of values.items) ≤ 512 }
     requires within { AreWithin now covers.old.items }
     ensures items { IfOk result (λ r. data_of r.0.items ≡ flagged_among eval (data_of values.items)) }

@@ -59,7 +59,11 @@ fn flag_entry(covers: &[Option<Cover>], entry: Value) -> Result<Value, Memory>
 
 /// Entries, captured where the covers of their names are.
 #[tactic(auto, using(crate::proofs::FlaggedItems::entries_step))]
-fn flag_entries(alloc: Global, covers: &[Option<Cover>], entries: Vec<Value>) -> Result<Vec<Value>, Memory>
+fn flag_entries(
+    alloc: Global,
+    covers: &[Option<Cover>],
+    entries: Vec<Value>,
+) -> Result<Vec<Value>, Memory>
     ensures { IfOk result (λ r. data_of r.items ≡ entries_by (λ x. is_caught (cover_of covers.now x)) (data_of entries.items)) }
 {
     let mut done = Vec::with_capacity(alloc, entries.len())?;
@@ -70,7 +74,12 @@ fn flag_entries(alloc: Global, covers: &[Option<Cover>], entries: Vec<Value>) ->
 }
 
 /// The fields of a scope with their flags.
-fn flag_scope_fields(alloc: Global, covers: &[Option<Cover>], evals: bool, mut fields: Vec<Value>) -> Result<Vec<Value>, Memory>
+fn flag_scope_fields(
+    alloc: Global,
+    covers: &[Option<Cover>],
+    evals: bool,
+    mut fields: Vec<Value>,
+) -> Result<Vec<Value>, Memory>
     ensures { IfOk result (λ r. data_of r.items ≡ fields_by (λ x. is_caught (cover_of covers.now x)) evals (data_of fields.items)) }
 {
     match take_first(&mut fields) {
@@ -89,7 +98,12 @@ fn flag_scope_fields(alloc: Global, covers: &[Option<Cover>], evals: bool, mut f
 }
 
 /// A scope with its flags, where its entries still cover their names.
-pub(crate) fn flag_scope(alloc: Global, covers: &[Option<Cover>], evals: bool, scope: Value) -> Result<Value, Memory>
+pub(crate) fn flag_scope(
+    alloc: Global,
+    covers: &[Option<Cover>],
+    evals: bool,
+    scope: Value,
+) -> Result<Value, Memory>
     ensures { IfOk result (λ r. datum r ≡ scope_by (λ x. is_caught (cover_of covers.now x)) evals (datum scope)) }
 {
     match scope {
@@ -130,7 +144,11 @@ pub(crate) fn is_eval_call(eval: Option<u32>, part: Part, fields: &[Value]) -> b
 {
     match part {
         Part::Call => match fields {
-            [Value::Node(callee), ..] => is_use_of_eval(eval, part_of(callee.kind()), callee.fields()),
+            [Value::Node(callee), ..] => is_use_of_eval(
+                eval,
+                part_of(callee.kind()),
+                callee.fields(),
+            ),
             _ => false,
         },
         _ => false,
@@ -138,7 +156,12 @@ pub(crate) fn is_eval_call(eval: Option<u32>, part: Part, fields: &[Value]) -> b
 }
 
 /// Uses the name of a node, where the node is a use.
-pub(crate) fn use_node(covers: &mut Vec<Option<Cover>>, now: u32, part: Part, name: Option<u32>) -> Result<(), Memory>
+pub(crate) fn use_node(
+    covers: &mut Vec<Option<Cover>>,
+    now: u32,
+    part: Part,
+    name: Option<u32>,
+) -> Result<(), Memory>
     ensures { OnOk result ((x : ℕ) → cover_of covers.new.items x ≡ touched (is_use_named x part name) false now (cover_of covers.old.items x)) }
 {
     match part {

@@ -3,17 +3,24 @@
 #![tactic(auto)]
 
 mod bare;
+mod context;
 mod covers;
 mod entries;
 mod exact_scopes;
 mod filling;
 mod flagging;
 mod flags;
+mod laws;
 mod names;
 mod repeats;
 mod roles;
 
 pub use bare::plain;
+pub use context::{Ctx, FactName, Rule, ScopeFacts, Violation};
 pub use exact_scopes::annotate;
+pub use laws::{
+    entries_are_captured_exactly, evals_are_told_by_all_scopes, exact_scopes_change_scopes_alone,
+    uses_find_captured_entries,
+};
 pub use names::{Declared, NameKind};
 pub use roles::{Form, Part, Shape, form_of, part_of, scope_shape};

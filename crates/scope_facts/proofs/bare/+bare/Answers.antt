@@ -11,7 +11,8 @@ plain_values-plain_value-requires t c = (omega (arith, item_weighs _ _ _ _ _ c.l
 pub plain_values-loop-value-preserved : goal.plain_values-loop-value-preserved
 plain_values-loop-value-preserved t c = record {
   bare = ap data_of c.in_ok-push.ensures.items ∙ bare_step _ _ _ _ c.loop-value.invariant.bare c.in_ok-plain_value.ensures;
-  all = step_on _ _ _ _ _ c.loop-value.invariant.all c.in-Some.ensures.steps.0 }
+  all = step_on _ _ _ _ _ c.loop-value.invariant.all c.in-Some.ensures.steps.0;
+}
 
 pub plain-rebuilt-requires : goal.plain-rebuilt-requires
 plain-rebuilt-requires t c = bare_made _ _ _ _ _ c.parts-kind.ensures.tree c.parts-kind.ensures.typed c.parts-kind.ensures.depth c.requires c.eager_kind.ensures c.in_ok-fields.ensures

@@ -16,4 +16,5 @@ decreases-plain_value l = weight_at (datum l.value)
 abbrev pub invariant-plain_values-loop-value : goal.invariant-plain_values-loop-value
 invariant-plain_values-loop-value l = record {
   bare : data_of l.done.items ≡ bare_in (data_of l.yielded);
-  all : l.yielded ++ l.value-iterator.rest.items ≡ l.fn.values.items }
+  all : l.yielded ++ l.value-iterator.rest.items ≡ l.fn.values.items;
+}

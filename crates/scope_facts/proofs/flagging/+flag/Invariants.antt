@@ -23,4 +23,5 @@ invariant-flag_items-loop-value l = record {
   items : data_of l.done.items ≡ flagged_among l.eval (data_of l.yielded);
   evals : l.evals ≡ evals_among l.eval (data_of l.yielded);
   covers : Touches (λ x. used_among x (data_of l.yielded)) (λ x. crossed_among x (data_of l.yielded)) l.now l.fn.covers.items l.covers.items;
-  all : l.yielded ++ l.value-iterator.rest.items ≡ l.fn.values.items }
+  all : l.yielded ++ l.value-iterator.rest.items ≡ l.fn.values.items;
+}

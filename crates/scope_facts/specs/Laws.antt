@@ -1,0 +1,25 @@
+-- What holds of exact scopes.
+use Rattle.std.specs.Prelude.{ℕ, true, ◌≡◌, List, [], Option}
+use Rattle.bast_schema.specs.Tree.{Tree, Data}
+use Rattle.scope_facts.specs.Uses.{crossed_in}
+use Rattle.scope_facts.specs.Frames.{respects}
+use Rattle.scope_facts.specs.Reading.{escapes_in, evals_told}
+use Rattle.scope_facts.specs.Exact.{exact, eval_name}
+use Rattle.scope_facts.specs.Bare.{bare}
+
+-- a scope's entry is captured exactly where some use of its name in what the scope covers finds no nearer scope with an
+-- entry of the name, and stands in a function that begins there
+abbrev pub CapturedExactly : Type 0
+CapturedExactly = (x : ℕ) (after : Data) → crossed_in x after ≡ escapes_in x [] after
+
+-- in an exact tree each use inside a function finds its nearest declaration captured, where that is outside the function
+abbrev pub UsesAreCaptured : Type 0
+UsesAreCaptured = (texts : List (Option (List ℕ))) (t : Tree) → respects [] (exact texts t) ≡ true
+
+-- in an exact tree each direct eval is covered only by scopes that say so
+abbrev pub EvalsAreTold : Type 0
+EvalsAreTold = (texts : List (Option (List ℕ))) (t : Tree) → evals_told (eval_name texts) true (exact texts t) ≡ true
+
+-- exact scopes change nothing but scopes
+abbrev pub BareOfExact : Type 0
+BareOfExact = (texts : List (Option (List ℕ))) (t : Tree) → bare (exact texts t) ≡ bare t

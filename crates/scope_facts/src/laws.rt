@@ -1,0 +1,24 @@
+// What holds of the definitions alone.
+ghost use Rattle.scope_facts.specs.Laws.{BareOfExact, CapturedExactly, EvalsAreTold, UsesAreCaptured};
+
+/// An entry is captured exactly where some use of its name inside a function has its nearest declaration there, outside
+/// that function.
+pub fn entries_are_captured_exactly()
+    ensures { CapturedExactly }
+{}
+
+/// In a tree with exact scopes each use inside a function finds its nearest declaration captured, where that is outside
+/// the function.
+pub fn uses_find_captured_entries()
+    ensures { UsesAreCaptured }
+{}
+
+/// In a tree with exact scopes each direct eval is covered only by scopes that say so.
+pub fn evals_are_told_by_all_scopes()
+    ensures { EvalsAreTold }
+{}
+
+/// The plain tree of a tree with exact scopes is the plain tree.
+pub fn exact_scopes_change_scopes_alone()
+    ensures { BareOfExact }
+{}
