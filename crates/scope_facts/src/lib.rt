@@ -24,3 +24,6 @@ pub use laws::{
 };
 pub use names::{Declared, NameKind};
 pub use roles::{Form, Part, Shape, form_of, part_of, scope_shape};
+
+#[cfg(test)]
+mod tests;
