@@ -39,8 +39,17 @@ fn is_bare(text: &str) -> bool {
 /// Whether the tree that the words tell gets these scopes, and its plain tree has empty ones.
 pub fn has_scopes(alloc: Global, words: &str, wanted: &str) -> bool {
     match scopes_of(alloc, words) {
-        Some((exact, bare)) => exact.as_str() == wanted && is_bare(bare.as_str()),
+        Some((exact, bare)) => exact.as_str().trim() == wanted && is_bare(bare.as_str()),
         None => false,
+    }
+}
+
+/// Whether a row holds: a source, the words that tell its tree, and the scopes that it has to have.
+pub fn row_holds(alloc: Global, row: &str) -> bool {
+    let mut parts = row.split('|');
+    match (parts.next(), parts.next(), parts.next()) {
+        (Some(_), Some(words), Some(wanted)) => has_scopes(alloc, words.trim(), wanted.trim()),
+        _ => false,
     }
 }
 
