@@ -14,3 +14,4 @@ pub mod BareItems
 pub mod Escapes
 pub mod BareSame
 pub mod Kept
+pub mod NamesKept
