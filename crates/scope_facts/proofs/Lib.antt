@@ -15,3 +15,4 @@ pub mod Escapes
 pub mod BareSame
 pub mod Kept
 pub mod NamesKept
+pub mod WholeKept

@@ -219,7 +219,7 @@ scope_holds p names (child (branch k ds)) after n h g = both (names_hold_in p (e
 scope_holds p names _ after n h g = g
 
 field_holds : (p : ℕ → Bool) (names : List ℕ) (d : Datum) (after : Data) (b : Bool) → list_all p names ≡ true → names_hold_in p after ≡ true → names_hold_at p d ≡ true → names_hold_at p (filled_at d) ≡ true
-  → names_hold_at p (if b then filled_scope names d after else filled_at d) ≡ true
+    → names_hold_at p (if b then filled_scope names d after else filled_at d) ≡ true
 field_holds p names d after true n h g f = scope_holds p names d after n h g
 field_holds p names d after false n h g f = f
 
@@ -235,8 +235,8 @@ mutual
   pub filled_names_in : (p : ℕ → Bool) (names : List ℕ) (ds : Data) → list_all p names ≡ true → names_hold_in p ds ≡ true → names_hold_in p (filled_in names ds) ≡ true
   filled_names_in p names none n h = refl
   filled_names_in p names (more d ds) n h = both (names_hold_at p (if is_scope d then filled_scope names d ds else filled_at d)) (names_hold_in p (filled_in names ds))
-    (field_holds p names d ds (is_scope d) n (and_second (names_hold_at p d) (names_hold_in p ds) h) (and_first (names_hold_at p d) (names_hold_in p ds) h) (filled_names_at p d (and_first (names_hold_at p d) (names_hold_in p ds) h)))
-    (filled_names_in p names ds n (and_second (names_hold_at p d) (names_hold_in p ds) h))
+      (field_holds p names d ds (is_scope d) n (and_second (names_hold_at p d) (names_hold_in p ds) h) (and_first (names_hold_at p d) (names_hold_in p ds) h) (filled_names_at p d (and_first (names_hold_at p d) (names_hold_in p ds) h)))
+      (filled_names_in p names ds n (and_second (names_hold_at p d) (names_hold_in p ds) h))
 
   pub filled_names_among : (p : ℕ → Bool) (ds : Data) → names_hold_in p ds ≡ true → names_hold_in p (filled_among ds) ≡ true
   filled_names_among p none h = refl

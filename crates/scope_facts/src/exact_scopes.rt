@@ -1,7 +1,9 @@
-ghost use Rattle.std.specs.Prelude.{◌≡◌, ◌≤◌, ◌^◌, IfOk};
+ghost use Rattle.std.specs.Prelude.{◌≡◌, ◌≤◌, ◌^◌, IfOk, ℕ, Bool, true};
 ghost use Rattle.std.specs.Option.{option_map};
-ghost use Rattle.bast_schema.specs.Counts.{size};
+ghost use Rattle.bast_schema.specs.Counts.{is_whole, size};
+ghost use Rattle.bast_schema.specs.Tree.{depth};
 ghost use Rattle.scope_facts.specs.Exact.{eval_name, exact};
+ghost use Rattle.scope_facts.specs.NamesHold.{names_hold};
 
 use crate::filling::fill_node;
 use crate::flagging::flag_node;
@@ -27,10 +29,15 @@ fn name_of_eval(strings: &StringTable) -> Option<u32>
 /// the scope is outside that function; a scope has a direct eval where one stands in what it covers. What the scopes of
 /// the tree said before does not count.
 ///
+/// The tree stays as well typed, no deeper, without windows where it has none, and names nothing new.
+///
 /// The time is about linear in the size of the tree, and the depth of the recursion is bounded by the tree's depth.
 pub fn annotate(alloc: Global, tree: Node, strings: &StringTable) -> Result<Node, Memory>
     requires { size tree ≤ 2 ^ 28 }
-    ensures { IfOk result (λ t. t ≡ exact strings.now tree) }
+    ensures exact { IfOk result (λ t. t ≡ exact strings.now tree) }
+    ensures whole { IfOk result (λ t. is_whole tree ≡ true → is_whole t ≡ true) }
+    ensures names { IfOk result (λ t. (p : ℕ → Bool) → names_hold p tree ≡ true → names_hold p t ≡ true) }
+    ensures depth { IfOk result (λ t. depth t ≤ depth tree) }
 {
     let eval = name_of_eval(strings);
     let tree = fill_node(alloc, tree)?;
