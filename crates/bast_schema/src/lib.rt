@@ -11,6 +11,7 @@ mod fields;
 mod kind;
 mod names;
 mod node;
+mod sizes;
 mod table;
 mod unions;
 
@@ -20,6 +21,7 @@ pub use fields::{field_name, fields_of, is_lazy};
 pub use kind::{EnumId, FieldType, Kind, Union};
 pub use names::{is_counted, kind_named, kind_numbered, name_of, number_of};
 pub use node::{Node, NodeFault, Value, Values};
+pub use sizes::values_left;
 pub use table::{Added, KindTable};
 pub use unions::allows;
 

@@ -63,6 +63,15 @@ fn a_copy_is_the_same_tree(rt: HostRuntime) -> Result<(), Fail> {
 }
 
 #[test]
+fn the_values_of_a_tree_are_counted(rt: HostRuntime) -> Result<(), Fail> {
+    let script = script_of_one(rt.alloc())?;
+    assert_eq!(rt; values_left(&script, 12), Some(3));
+    assert_eq!(rt; values_left(&script, 9), Some(0));
+    assert_eq!(rt; values_left(&script, 8), None);
+    Ok(())
+}
+
+#[test]
 fn a_value_too_many_or_of_another_type_is_mistyped(rt: HostRuntime) -> Result<(), Fail> {
     for kind in [Kind::EmptyStatement, Kind::ThrowStatement] {
         let fields = vec![in rt.alloc(); Value::Bool(true)]?;
