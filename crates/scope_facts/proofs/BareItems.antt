@@ -1,5 +1,5 @@
 -- Values that are made plain one after the other.
-use Rattle.std.proofs.Common.{List, [], ◌∷◌, ◌++◌, ◌≡◌, refl, ap, sym, ◌∙◌, true, Bool, ◌&&◌, subst, if◌then◌else◌}
+use Rattle.std.proofs.Common.{List, [], ◌∷◌, ◌++◌, ◌≡◌, refl, ap, sym, ◌∙◌, true, if◌then◌else◌}
 use Rattle.bast_schema.specs.Tree.{Datum, Data, none, more}
 use Rattle.bast_schema.specs.Counts.{join, is_whole_at, is_whole_in}
 use Rattle.bast_schema.specs.View.{datum, data_of}

@@ -1,11 +1,10 @@
 -- The bare tree does not see entries and flags.
-use Rattle.std.proofs.Common.{ℕ, List, [], ◌∷◌, ◌≡◌, Bool, true, false, refl, ap, if◌then◌else◌, ◌∙◌, Option}
-use Rattle.bast_schema.specs.Tree.{Tree, branch, Datum, child, absent, listed, flag, index, whole, name, no_name, choice, window, Data, none, more}
-use Rattle.scope_facts.specs.Roles.{part, is_scope_part, shape_of}
-use Rattle.scope_facts.specs.Uses.{is_scope, crossed_in, evals_in}
+use Rattle.std.proofs.Common.{ℕ, List, ◌≡◌, Bool, true, false, refl, ap, if◌then◌else◌, ◌∙◌, Option}
+use Rattle.bast_schema.specs.Tree.{Tree, branch, Datum, child, listed, Data, none, more}
+use Rattle.scope_facts.specs.Uses.{is_scope}
 use Rattle.scope_facts.specs.Names.{bound}
 use Rattle.scope_facts.specs.Filled.{filled_scope, filled, filled_at, filled_in, filled_among}
-use Rattle.scope_facts.specs.Flagged.{scope_by, flagged_scope, flagged, flagged_at, flagged_in, flagged_among}
+use Rattle.scope_facts.specs.Flagged.{flagged_scope, flagged, flagged_at, flagged_in, flagged_among}
 use Rattle.scope_facts.specs.Exact.{exact, eval_name}
 use Rattle.scope_facts.specs.Bare.{eager, bare_scope, bare, bare_at, bare_in}
 

@@ -4,20 +4,17 @@ use Rattle.std.specs.List.{list_all}
 use Rattle.bast_schema.specs.declared.kind.Kind.{Kind}
 use Rattle.bast_schema.specs.declared.kind.Kind.TheVariants.{AssertedScriptGlobalScope, AssertedVarScope, AssertedBlockScope, AssertedParameterScope, AssertedBoundNamesScope, LazyFunctionDeclaration, LazyMethod, LazyGetter, LazySetter, LazyFunctionExpression}
 use Rattle.bast_schema.specs.declared.kind.Union.{Union}
-use Rattle.bast_schema.specs.declared.kind.Union.TheVariants.{Body, Statement, Expression, Parameter, ParameterName, PropertyName, ObjectProperty, Argument, ForInit, ForTarget, One}
+use Rattle.bast_schema.specs.declared.kind.Union.TheVariants.{Statement, Expression, ObjectProperty, Argument, ForInit, ForTarget, One}
 use Rattle.bast_schema.specs.declared.kind.FieldType.{FieldType}
 use Rattle.bast_schema.specs.declared.kind.FieldType.TheVariants as field
 use Rattle.bast_schema.specs.Fields.{fields}
 use Rattle.bast_schema.specs.Unions.{allowed}
-use Rattle.bast_schema.specs.Kinds.{counted, same_kind}
+use Rattle.bast_schema.specs.Kinds.{counted}
 use Rattle.bast_schema.specs.Made.{node_of}
 use Rattle.bast_schema.specs.Counts.{is_whole, is_whole_at, is_whole_in}
 use Rattle.bast_schema.specs.Tree.{Tree, branch, Datum, child, absent, listed, flag, index, whole, name, no_name, choice, window, Data, none, more, typed, fits, fit, items_fit, item_type, is_none, depth, depth_at, depth_in, kind_of}
 use Rattle.bast_schema.proofs.Both.{and_first, and_second}
-use Rattle.bast_schema.proofs.EachKind.{same_kind_true}
 use Rattle.bast_schema.proofs.Typed.{made_where_fit, allowed_one}
-use Rattle.scope_facts.specs.declared.roles.Shape.{Shape}
-use Rattle.scope_facts.specs.declared.roles.Shape.TheVariants as shape
 use Rattle.scope_facts.specs.Roles.{part, is_scope_part, shape_of}
 use Rattle.scope_facts.specs.Uses.{is_scope}
 use Rattle.scope_facts.specs.Bare.{eager, empty_fields, bare_scope, bare, bare_at, bare_in}

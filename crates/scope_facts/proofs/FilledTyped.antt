@@ -1,5 +1,5 @@
 -- A tree with the entries of its scopes is well typed, and not deeper than before.
-use Rattle.std.proofs.Common.{ℕ, List, [], ◌∷◌, ◌≡◌, Bool, true, false, refl, ap, sym, ◌&&◌, ◌||◌, ◌+◌, ◌^◌, max, not, if◌then◌else◌, Option, None, Some, ◌∙◌, arith, ◌≤◌, ◌<◌, IsTrue, subst, nat_lt, Ok, suc, length}
+use Rattle.std.proofs.Common.{ℕ, List, [], ◌∷◌, ◌≡◌, Bool, true, false, refl, ap, sym, ◌&&◌, ◌||◌, ◌+◌, ◌^◌, max, not, if◌then◌else◌, Option, None, Some, ◌∙◌, arith, ◌≤◌, ◌<◌, IsTrue, subst, nat_lt, Ok}
 use Rattle.std.proofs.lemmas.Bool.Decides.{nat_tests}
 use Rattle.bast_schema.specs.declared.kind.Kind.{Kind}
 use Rattle.bast_schema.specs.declared.kind.Kind.TheVariants.{AssertedScriptGlobalScope, AssertedVarScope, AssertedBlockScope, AssertedParameterScope, AssertedBoundNamesScope, AssertedDeclaredName, AssertedBoundName}
@@ -12,7 +12,7 @@ use Rattle.bast_schema.specs.Unions.{allowed}
 use Rattle.bast_schema.specs.Kinds.{counted}
 use Rattle.bast_schema.specs.Made.{node_of}
 use Rattle.bast_schema.specs.Counts.{size, size_at, size_in}
-use Rattle.bast_schema.specs.Tree.{Tree, branch, Datum, child, absent, listed, flag, index, whole, name, no_name, choice, window, Data, none, more, typed, fits, fit, items_fit, item_type, is_none, depth, depth_at, depth_in, kind_of, count}
+use Rattle.bast_schema.specs.Tree.{Tree, branch, Datum, child, listed, Data, none, more, typed, fits, fit, items_fit, item_type, is_none, depth, depth_at, depth_in, kind_of, count}
 use Rattle.bast_schema.proofs.Both.{and_first, and_second}
 use Rattle.bast_schema.proofs.Typed.{made_where_fit}
 use Rattle.scope_facts.specs.declared.names.Declared.{Declared}
@@ -26,9 +26,9 @@ use Rattle.scope_facts.specs.Roles as roles
 use Rattle.scope_facts.specs.Roles.{part, is_scope_part, shape_of}
 use Rattle.scope_facts.specs.Uses.{is_scope}
 use Rattle.scope_facts.specs.Names.{kind_choice, bound, once, tops_in, lexicals_in}
-use Rattle.scope_facts.specs.Entries.{declared_entry, declared_entries, bound_entries, rest_entries, place_entry, parameter_name, item_entries, list_entries, parameter_entries_by, parameter_entries_at, parameter_entries, entries, flags, flags_by, is_simple}
+use Rattle.scope_facts.specs.Entries.{declared_entries, bound_entries, rest_entries, place_entry, parameter_name, item_entries, list_entries, parameter_entries_by, parameter_entries_at, parameter_entries, entries, flags, flags_by, is_simple}
 use Rattle.scope_facts.specs.Filled.{filled_scope, filled, filled_at, filled_in, filled_among}
-use Rattle.scope_facts.proofs.Sizes.{count_le-size, items_bounded}
+use Rattle.scope_facts.proofs.Sizes.{items_bounded}
 
 kind_fits : (k : NameKind) → nat_lt (kind_choice k) 3 ≡ true
 kind_fits Var = refl

@@ -1,12 +1,10 @@
 -- A tree with its flags set is as well typed, as deep and as large as before.
-use Rattle.std.proofs.Common.{ℕ, List, [], ◌∷◌, ◌≡◌, Bool, true, false, refl, ap, sym, ◌&&◌, ◌||◌, ◌+◌, max, not, if◌then◌else◌, Option, None, Some, ◌∙◌, arith, ◌≤◌, IsTrue, subst, Ok}
+use Rattle.std.proofs.Common.{ℕ, List, [], ◌∷◌, ◌≡◌, Bool, true, false, refl, ap, sym, ◌+◌, max, if◌then◌else◌, Option, ◌∙◌, ◌≤◌, IsTrue, subst, Ok}
 use Rattle.bast_schema.specs.declared.kind.Kind.{Kind}
 use Rattle.bast_schema.specs.declared.kind.Union.{Union}
 use Rattle.bast_schema.specs.declared.kind.FieldType.{FieldType}
 use Rattle.bast_schema.specs.declared.kind.FieldType.TheVariants as field
 use Rattle.bast_schema.specs.Fields.{fields}
-use Rattle.bast_schema.specs.Unions.{allowed}
-use Rattle.bast_schema.specs.Kinds.{counted}
 use Rattle.bast_schema.specs.Made.{node_of}
 use Rattle.bast_schema.specs.Counts.{size, size_at, size_in}
 use Rattle.bast_schema.specs.Tree.{Tree, branch, Datum, child, absent, listed, flag, index, whole, name, no_name, choice, window, Data, none, more, typed, fits, fit, items_fit, item_type, is_none, depth, depth_at, depth_in, kind_of}

@@ -1,16 +1,16 @@
 -- Exact flags are what the uses and the direct evals below need.
-use Rattle.std.proofs.Common.{ℕ, List, [], ◌∷◌, ◌≡◌, Bool, true, false, refl, ap, sym, ◌&&◌, ◌||◌, not, if◌then◌else◌, Option, None, Some, ◌∙◌}
+use Rattle.std.proofs.Common.{ℕ, List, [], ◌≡◌, Bool, true, false, refl, ap, sym, ◌&&◌, ◌||◌, not, if◌then◌else◌, Option, None, Some, ◌∙◌}
 use Rattle.bast_schema.specs.declared.kind.Kind.{Kind}
 use Rattle.bast_schema.specs.Tree.{Tree, branch, Datum, child, absent, listed, flag, index, whole, name, no_name, choice, window, Data, none, more}
 use Rattle.scope_facts.specs.declared.roles.Part.{Part}
 use Rattle.scope_facts.specs.declared.roles.Part.TheVariants.{Scope, Use, Call, Function, Other}
-use Rattle.scope_facts.specs.Roles.{part, is_function, is_scope_part}
-use Rattle.scope_facts.specs.Uses.{is_scope, is_use_named, is_use_of, is_use_of_text, is_eval, is_name, is_entry, has_entry, declares, first_name, used, used_at, used_in, used_among, crossed, crossed_at, crossed_in, crossed_among, evals, evals_at, evals_in, evals_among}
+use Rattle.scope_facts.specs.Roles.{part, is_scope_part}
+use Rattle.scope_facts.specs.Uses.{is_scope, is_use_named, is_use_of_text, is_eval, is_name, is_entry, has_entry, declares, first_name, used, used_at, used_in, used_among, crossed, crossed_at, crossed_in, crossed_among, evals, evals_at, evals_in, evals_among}
 use Rattle.scope_facts.specs.Frames.{is_captured, kept, kept_at, kept_in, kept_among, kept_scope, kept_entry, kept_entries, needed, respects}
 use Rattle.scope_facts.specs.Flagged.{with_flag, holds_of, entry_by, entries_by, fields_by, scope_by, flagged_scope, flagged, flagged_at, flagged_in, flagged_among}
 use Rattle.scope_facts.specs.Filled.{filled}
 use Rattle.scope_facts.specs.Exact.{exact, eval_name}
-use Rattle.scope_facts.specs.Reading.{says_eval, says_eval_in, evals_told, evals_told_at, evals_told_in, evals_told_among}
+use Rattle.scope_facts.specs.Reading.{says_eval, evals_told, evals_told_at, evals_told_in, evals_told_among}
 use Rattle.scope_facts.proofs.Nearest.{uses_respect}
 
 first_name_flag : (b : Bool) (ds : Data) → first_name (with_flag b ds) ≡ first_name ds

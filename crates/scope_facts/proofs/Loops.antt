@@ -1,6 +1,6 @@
 -- Walks over a list of values that take the list.
-use Rattle.std.proofs.Common.{ℕ, List, [], ◌∷◌, ◌++◌, ◌≡◌, ◌<◌, ◌≤◌, ◌+◌, refl, ap, sym, ◌∙◌, arith, subst, append_assoc}
-use Rattle.bast_schema.specs.Tree.{Tree, branch, Datum, Data, none, more, weight_at, weight_in, depth_at, depth_in}
+use Rattle.std.proofs.Common.{List, [], ◌∷◌, ◌++◌, ◌≡◌, ◌<◌, ◌≤◌, refl, ap, sym, ◌∙◌, arith, subst, append_assoc}
+use Rattle.bast_schema.specs.Tree.{none, more, weight_at, weight_in, depth_at, depth_in}
 use Rattle.bast_schema.specs.Counts.{size_at, size_in, join}
 use Rattle.bast_schema.specs.View.{datum, data_of}
 use Rattle.bast_schema.specs.declared.node.Value.{Value}

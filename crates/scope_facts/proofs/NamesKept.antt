@@ -1,5 +1,5 @@
 -- Exact scopes name nothing that the tree does not name.
-use Rattle.std.proofs.Common.{ℕ, List, [], ◌∷◌, ◌++◌, ◌≡◌, Bool, true, false, refl, ap, sym, ◌&&◌, ◌+◌, if◌then◌else◌, Option, None, Some, ◌∙◌, map, option_to_list}
+use Rattle.std.proofs.Common.{ℕ, List, [], ◌∷◌, ◌++◌, ◌≡◌, Bool, true, false, refl, ap, ◌&&◌, ◌+◌, if◌then◌else◌, Option, ◌∙◌, option_to_list}
 use Rattle.std.specs.List.{list_all, list_any, slice_get}
 use Rattle.bast_schema.specs.Tree.{Tree, branch, Datum, child, absent, listed, flag, index, whole, name, no_name, choice, window, Data, none, more}
 use Rattle.bast_schema.proofs.Both.{and_first, and_second}
@@ -7,14 +7,14 @@ use Rattle.scope_facts.specs.declared.names.Declared.{Declared}
 use Rattle.scope_facts.specs.declared.names.NameKind.{NameKind}
 use Rattle.scope_facts.specs.declared.names.NameKind.TheVariants as kind
 use Rattle.scope_facts.specs.declared.roles.Form.{Form}
-use Rattle.scope_facts.specs.declared.roles.Form.TheVariants.{Binding, VarStatement, LexicalStatement, FunctionStatement, Head, Case, Parameters, Inside, Plain}
+use Rattle.scope_facts.specs.declared.roles.Form.TheVariants.{Binding, VarStatement, LexicalStatement, FunctionStatement, Head, Case, Parameters, Inside}
 use Rattle.scope_facts.specs.declared.roles.Shape.{Shape}
 use Rattle.scope_facts.specs.declared.roles.Shape.TheVariants as shape
 use Rattle.scope_facts.specs.Roles as roles
 use Rattle.scope_facts.specs.Roles.{shape_of}
 use Rattle.scope_facts.specs.Uses.{is_scope, first_name, crossed_in, evals_in}
-use Rattle.scope_facts.specs.Names.{with_kind, binding_name, bound_at, bound, bound_below_at, bound_below, declarators, lexical_kind, is_var_head, head_kind, vars_by, vars, vars_at, vars_in, lexicals_by, lexicals, lexicals_at, lexicals_in, tops_by, tops, tops_at, tops_among, tops_in, same, once}
-use Rattle.scope_facts.specs.Entries.{declared_entries, bound_entries, rest_entries, place_entry, parameter_name, item_entries, list_entries, parameter_entries_by, parameter_entries_at, parameter_entries, entries, flags, flags_by, is_simple}
+use Rattle.scope_facts.specs.Names.{with_kind, binding_name, bound_at, bound, bound_below_at, bound_below, declarators, lexical_kind, is_var_head, head_kind, vars_by, vars, vars_at, vars_in, lexicals_by, lexicals, lexicals_at, lexicals_in, tops_by, tops_at, tops_among, tops_in, same, once}
+use Rattle.scope_facts.specs.Entries.{declared_entries, bound_entries, rest_entries, place_entry, item_entries, list_entries, parameter_entries_by, parameter_entries_at, parameter_entries, entries, flags, flags_by, is_simple}
 use Rattle.scope_facts.specs.Filled.{filled_scope, filled, filled_at, filled_in, filled_among}
 use Rattle.scope_facts.specs.Flagged.{with_flag, holds_of, entry_by, entries_by, fields_by, scope_by, flagged_scope, flagged, flagged_at, flagged_in, flagged_among}
 use Rattle.scope_facts.specs.Exact.{exact, eval_name}

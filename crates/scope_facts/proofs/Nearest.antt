@@ -1,9 +1,8 @@
 -- The nearest declarations, looked for from above, and the uses below a node, counted without what scopes below declare.
 use Rattle.std.proofs.Common.{ℕ, List, [], ◌∷◌, ◌≡◌, Bool, true, false, refl, ap, sym, ◌&&◌, ◌||◌, not, nat_eq, if◌then◌else◌, Option, None, Some, ◌∙◌, arith}
-use Rattle.bast_schema.specs.declared.kind.Kind.{Kind}
-use Rattle.bast_schema.specs.Tree.{Tree, branch, Datum, child, absent, listed, flag, index, whole, name, no_name, choice, window, Data, none, more}
+use Rattle.bast_schema.specs.Tree.{Tree, branch, Datum, child, listed, Data, none, more}
 use Rattle.scope_facts.specs.Roles.{part, is_function}
-use Rattle.scope_facts.specs.Uses.{is_scope, is_use_named, is_use_of, is_name, is_entry, has_entry, declares, first_name, used, used_at, used_in, used_among, crossed, crossed_at, crossed_in, crossed_among}
+use Rattle.scope_facts.specs.Uses.{is_scope, is_use_of, is_name, has_entry, declares, first_name, used, used_at, used_in, used_among, crossed, crossed_at, crossed_in, crossed_among}
 use Rattle.scope_facts.specs.Frames.{Frame, scope, begins, frame, all_captured, all_captured_at, is_captured, Near, nearest, fine, fine_name, fine_use, inside, respects, respects_at, respects_in, respects_among, kept, kept_at, kept_in, kept_among, kept_scope, kept_entry, kept_entries, needed}
 use Rattle.scope_facts.specs.declared.roles.Part.{Part}
 use Rattle.scope_facts.specs.declared.roles.Part.TheVariants.{Scope, Use, Call, Function, Other}

@@ -1,7 +1,6 @@
 -- Covers that are kept and put back.
-use Rattle.std.proofs.Common.{arith, ℕ, List, [], ◌∷◌, ◌++◌, ◌≡◌, ◌<◌, ◌+◌, Bool, true, false, refl, ap, sym, ◌&&◌, ◌||◌, not, nat_eq, if◌then◌else◌, Option, None, Some, ◌∙◌, take, length, get_or}
+use Rattle.std.proofs.Common.{arith, ℕ, List, [], ◌∷◌, ◌++◌, ◌≡◌, ◌<◌, ◌+◌, Bool, true, false, refl, ap, sym, ◌||◌, nat_eq, if◌then◌else◌, Option, ◌∙◌, take, length, get_or}
 use Rattle.std.proofs.lemmas.List.{take_more}
-use Rattle.std.specs.List.{list_any}
 use Rattle.scope_facts.specs.Covers.{has_name, restored}
 use Rattle.scope_facts.specs.declared.covers.Cover.{Cover}
 use Rattle.scope_facts.specs.declared.covers.Shadow.{Shadow}

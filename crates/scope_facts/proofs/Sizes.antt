@@ -1,10 +1,10 @@
 -- How many values there are at most.
-use Rattle.std.proofs.Common.{ℕ, List, [], ◌∷◌, ◌≤◌, ◌+◌, ◌≡◌, suc, arith, ap, subst, get_or, length}
+use Rattle.std.proofs.Common.{ℕ, List, [], ◌∷◌, ◌≤◌, ◌≡◌, arith, subst, get_or, length}
 use Rattle.bast_schema.specs.declared.node.Value.{Value}
 use Rattle.bast_schema.specs.declared.node.Value.TheVariants as value
 use Rattle.bast_schema.specs.View.{datum, data_of}
-use Rattle.bast_schema.specs.Tree.{Tree, branch, Datum, child, absent, listed, flag, index, whole, name, no_name, choice, window, Data, none, more, count}
-use Rattle.bast_schema.specs.Counts.{size, size_at, size_in}
+use Rattle.bast_schema.specs.Tree.{branch, Datum, child, absent, listed, flag, index, whole, name, no_name, choice, window, Data, none, more, count}
+use Rattle.bast_schema.specs.Counts.{size_at, size_in}
 
 pub size_at_positive : (d : Datum) → 1 ≤ size_at d
 size_at_positive (child (branch k ds)) = omega arith

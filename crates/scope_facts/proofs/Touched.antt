@@ -1,7 +1,6 @@
 -- What pieces of a program do to covers, one after the other.
 use Rattle.std.proofs.Common.{ℕ, List, [], ◌∷◌, ◌++◌, ◌≡◌, ◌≤◌, ◌+◌, Bool, true, false, refl, ap, sym, ◌&&◌, ◌||◌, not, nat_eq, nat_lt, if◌then◌else◌, Option, None, Some, ◌∙◌, arith, subst, option_to_list}
 use Rattle.std.proofs.lemmas.Bool.Decides.{nat_tests}
-use Rattle.std.specs.List.{list_any}
 use Rattle.bast_schema.specs.declared.kind.Kind.{Kind}
 use Rattle.bast_schema.specs.declared.kind.Kind.TheVariants.{FunctionContents, GetterContents, SetterContents, EagerArrowExpressionWithExpression}
 use Rattle.bast_schema.specs.Kinds.{counted}
@@ -14,7 +13,7 @@ use Rattle.scope_facts.specs.declared.roles.Part.{Part}
 use Rattle.scope_facts.specs.declared.roles.Part.TheVariants.{Scope, Use, Call, Function, Other}
 use Rattle.scope_facts.specs.Roles.{part, is_function}
 use Rattle.scope_facts.specs.Uses.{is_scope, first_name, is_name, is_entry, has_entry, declares, is_use_named, is_use_of, used, used_at, used_in, used_among, crossed, crossed_at, crossed_in, crossed_among, evals_in}
-use Rattle.scope_facts.specs.Flagged.{holds_of, with_flag, entry_by, entries_by, fields_by, scope_by, flagged_scope, flagged_in}
+use Rattle.scope_facts.specs.Flagged.{holds_of, entry_by, entries_by, scope_by, flagged_scope, flagged_in}
 use Rattle.scope_facts.specs.Covers.{cover_of, touched, is_caught, is_within, AreWithin, has_name, entry_name, names_among, entry_names, restored, inside_now, Touches}
 use Rattle.scope_facts.proofs.Nearest.{crossed_used_in}
 use Rattle.scope_facts.proofs.FlaggedItems.{used_last, crossed_last}

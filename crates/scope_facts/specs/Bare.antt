@@ -2,9 +2,9 @@
 use Rattle.std.specs.Prelude.{false, if◌then◌else◌}
 use Rattle.bast_schema.specs.declared.kind.Kind.{Kind}
 use Rattle.bast_schema.specs.declared.kind.Kind.TheVariants.{EagerFunctionDeclaration, LazyFunctionDeclaration, EagerMethod, LazyMethod, EagerGetter, LazyGetter, EagerSetter, LazySetter, EagerFunctionExpression, LazyFunctionExpression}
-use Rattle.bast_schema.specs.Tree.{Tree, branch, Datum, child, absent, listed, flag, index, whole, name, no_name, choice, window, Data, none, more}
+use Rattle.bast_schema.specs.Tree.{Tree, branch, Datum, child, listed, flag, Data, none, more}
 use Rattle.scope_facts.specs.declared.roles.Shape.{Shape}
-use Rattle.scope_facts.specs.declared.roles.Shape.TheVariants.{Statements, Lexical, Parameters, BoundName, Nothing}
+use Rattle.scope_facts.specs.declared.roles.Shape.TheVariants.{Parameters}
 use Rattle.scope_facts.specs.Roles.{shape_of}
 use Rattle.scope_facts.specs.Uses.{is_scope}
 

@@ -1,10 +1,10 @@
 -- What a walk knows of the names at a place, name by name: the innermost entry that covers the place.
 use Rattle.std.specs.Prelude.{ℕ, Bool, true, false, ◌&&◌, ◌||◌, ◌++◌, ◌≡◌, ◌+◌, not, nat_eq, nat_lt, if◌then◌else◌, Option, None, Some, List, [], ◌∷◌, get_or, option_to_list}
 use Rattle.std.specs.List.{list_any}
-use Rattle.bast_schema.specs.Tree.{Tree, branch, Datum, child, absent, listed, flag, index, whole, name, no_name, choice, window, Data, none, more}
+use Rattle.bast_schema.specs.Tree.{branch, Datum, child, listed, Data, none, more}
 use Rattle.scope_facts.specs.Uses.{first_name}
 use Rattle.scope_facts.specs.declared.roles.Part.{Part}
-use Rattle.scope_facts.specs.declared.roles.Part.TheVariants.{Scope, Use, Call, Function, Other}
+use Rattle.scope_facts.specs.declared.roles.Part.TheVariants.{Function}
 use Rattle.scope_facts.specs.declared.covers.Cover.{Cover}
 use Rattle.scope_facts.specs.declared.covers.Shadow.{Shadow}
 

@@ -1,9 +1,8 @@
 -- The entries that a scope has to have, not captured, and its flags but that of a direct eval.
 use Rattle.std.specs.Prelude.{ℕ, Bool, true, false, ◌&&◌, ◌+◌, List, [], ◌∷◌, Option, None, Some}
 use Rattle.std.specs.List.{slice_get}
-use Rattle.bast_schema.specs.declared.kind.Kind.{Kind}
 use Rattle.bast_schema.specs.declared.kind.Kind.TheVariants.{AssertedDeclaredName, AssertedPositionalParameterName, AssertedRestParameterName, AssertedBoundName}
-use Rattle.bast_schema.specs.Tree.{Tree, branch, Datum, child, absent, listed, flag, index, whole, name, no_name, choice, window, Data, none, more}
+use Rattle.bast_schema.specs.Tree.{Tree, branch, Datum, child, absent, listed, flag, index, name, choice, Data, none, more}
 use Rattle.scope_facts.specs.declared.roles.Form.{Form}
 use Rattle.scope_facts.specs.declared.roles.Form.TheVariants as form
 use Rattle.scope_facts.specs.declared.roles.Shape.{Shape}

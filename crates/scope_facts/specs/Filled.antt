@@ -1,6 +1,6 @@
 -- A tree with the entries of its scopes, and no flag set.
 use Rattle.std.specs.Prelude.{ℕ, List, if◌then◌else◌}
-use Rattle.bast_schema.specs.Tree.{Tree, branch, Datum, child, absent, listed, flag, index, whole, name, no_name, choice, window, Data, none, more}
+use Rattle.bast_schema.specs.Tree.{Tree, branch, Datum, child, listed, Data, none, more}
 use Rattle.scope_facts.specs.Roles.{shape_of}
 use Rattle.scope_facts.specs.Uses.{is_scope}
 use Rattle.scope_facts.specs.Names.{bound}

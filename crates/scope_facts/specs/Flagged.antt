@@ -1,6 +1,6 @@
 -- A tree with the entries that it has, and the flags of its scopes set where they are needed.
-use Rattle.std.specs.Prelude.{ℕ, Bool, true, false, if◌then◌else◌, Option, None, Some}
-use Rattle.bast_schema.specs.Tree.{Tree, branch, Datum, child, absent, listed, flag, index, whole, name, no_name, choice, window, Data, none, more}
+use Rattle.std.specs.Prelude.{ℕ, Bool, false, if◌then◌else◌, Option, None, Some}
+use Rattle.bast_schema.specs.Tree.{Tree, branch, Datum, child, listed, flag, Data, none, more}
 use Rattle.scope_facts.specs.Uses.{is_scope, first_name, crossed_in, evals_in}
 
 -- values with the first flag among them set to this

@@ -1,11 +1,11 @@
 -- The scopes that cover a node, and what is true of the uses below it.
 use Rattle.std.specs.Prelude.{ℕ, Bool, true, false, ◌&&◌, ◌||◌, not, if◌then◌else◌, Option, None, Some, List, [], ◌∷◌}
-use Rattle.bast_schema.specs.Tree.{Tree, branch, Datum, child, absent, listed, flag, index, whole, name, no_name, choice, window, Data, none, more}
+use Rattle.bast_schema.specs.Tree.{Tree, branch, Datum, child, listed, flag, Data, none, more}
 use Rattle.scope_facts.specs.Roles.{part}
 use Rattle.scope_facts.specs.Uses.{is_scope, is_entry, has_entry, first_name, crossed_in}
 use Rattle.scope_facts.specs.Flagged.{holds_of}
 use Rattle.scope_facts.specs.declared.roles.Part.{Part}
-use Rattle.scope_facts.specs.declared.roles.Part.TheVariants.{Scope, Use, Call, Function, Other}
+use Rattle.scope_facts.specs.declared.roles.Part.TheVariants.{Use, Function}
 
 -- of what is around a node, innermost first: a scope with its entries, or the place where a function begins
 pub data Frame : Type 0 where

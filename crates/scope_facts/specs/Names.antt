@@ -1,9 +1,9 @@
 -- The names that a piece of a program declares, in the order of the declaring nodes.
-use Rattle.std.specs.Prelude.{ℕ, Bool, true, false, ◌&&◌, nat_eq, if◌then◌else◌, Option, None, Some, List, [], ◌∷◌, ◌++◌, map, option_to_list}
+use Rattle.std.specs.Prelude.{ℕ, Bool, false, ◌&&◌, nat_eq, if◌then◌else◌, Option, None, List, [], ◌∷◌, ◌++◌, map, option_to_list}
 use Rattle.std.specs.List.{list_any}
-use Rattle.bast_schema.specs.Tree.{Tree, branch, Datum, child, absent, listed, flag, index, whole, name, no_name, choice, window, Data, none, more}
+use Rattle.bast_schema.specs.Tree.{Tree, branch, Datum, child, listed, choice, Data, none, more}
 use Rattle.scope_facts.specs.declared.roles.Form.{Form}
-use Rattle.scope_facts.specs.declared.roles.Form.TheVariants.{Binding, VarStatement, LexicalStatement, FunctionStatement, Head, Case, Parameters, Inside, Plain}
+use Rattle.scope_facts.specs.declared.roles.Form.TheVariants.{Binding, VarStatement, LexicalStatement, FunctionStatement, Head, Case, Inside}
 use Rattle.scope_facts.specs.declared.names.Declared.{Declared}
 use Rattle.scope_facts.specs.declared.names.NameKind.{NameKind}
 use Rattle.scope_facts.specs.declared.names.NameKind.TheVariants.{Var, Lexical, Constant}

@@ -1,6 +1,6 @@
 -- What holds of each name of a tree.
-use Rattle.std.specs.Prelude.{ℕ, Bool, true, false, ◌&&◌}
-use Rattle.bast_schema.specs.Tree.{Tree, branch, Datum, child, absent, listed, flag, index, whole, name, no_name, choice, window, Data, none, more}
+use Rattle.std.specs.Prelude.{ℕ, Bool, true, ◌&&◌}
+use Rattle.bast_schema.specs.Tree.{Tree, branch, Datum, child, listed, name, Data, none, more}
 
 -- whether a property holds of each name and text of a tree
 abbrev mutual

@@ -1,6 +1,6 @@
 -- The scopes read from above: what a use finds on its way out.
 use Rattle.std.specs.Prelude.{ℕ, Bool, true, false, ◌&&◌, ◌||◌, not, if◌then◌else◌, Option, List, [], ◌∷◌}
-use Rattle.bast_schema.specs.Tree.{Tree, branch, Datum, child, absent, listed, flag, index, whole, name, no_name, choice, window, Data, none, more}
+use Rattle.bast_schema.specs.Tree.{Tree, branch, Datum, child, listed, Data, none, more}
 use Rattle.scope_facts.specs.Roles.{part}
 use Rattle.scope_facts.specs.Uses.{is_scope, has_entry, is_use_of, is_eval}
 use Rattle.scope_facts.specs.Frames.{Frame, scope, begins, frame, inside, is_captured}

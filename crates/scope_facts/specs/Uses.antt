@@ -1,8 +1,8 @@
 -- The uses of a name below a node, and the direct evals there. A scope covers what stands after it in its node.
-use Rattle.std.specs.Prelude.{ℕ, Bool, true, false, ◌&&◌, ◌||◌, not, nat_eq, if◌then◌else◌, Option, None, Some}
-use Rattle.bast_schema.specs.Tree.{Tree, branch, Datum, child, absent, listed, flag, index, whole, name, no_name, choice, window, Data, none, more}
+use Rattle.std.specs.Prelude.{ℕ, Bool, false, ◌&&◌, ◌||◌, not, nat_eq, if◌then◌else◌, Option, None, Some}
+use Rattle.bast_schema.specs.Tree.{Tree, branch, Datum, child, listed, name, Data, none, more}
 use Rattle.scope_facts.specs.declared.roles.Part.{Part}
-use Rattle.scope_facts.specs.declared.roles.Part.TheVariants.{Scope, Use, Call, Function, Other}
+use Rattle.scope_facts.specs.declared.roles.Part.TheVariants.{Use, Call}
 use Rattle.scope_facts.specs.Roles.{part, is_scope_part, is_function}
 
 abbrev pub is_scope : Datum → Bool

@@ -1,5 +1,5 @@
 use Rattle.std.proofs.Common.{◌∙◌, ap, arith}
-use Rattle.bast_schema.specs.View.{datum, data_of}
+use Rattle.bast_schema.specs.View.{data_of}
 use Rattle.scope_facts.proofs.Loops.{item_weighs, step_on}
 use Rattle.scope_facts.proofs.BareItems.{bare_step, item_whole}
 use Rattle.scope_facts.proofs.BareTyped.{bare_made}

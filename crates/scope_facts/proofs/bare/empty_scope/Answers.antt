@@ -1,5 +1,5 @@
 use Rattle.std.proofs.Common.{ap, ◌∙◌}
-use Rattle.bast_schema.specs.View.{datum, data_of}
+use Rattle.bast_schema.specs.View.{datum}
 use Rattle.scope_facts.specs.Bare.{empty_fields}
 use Rattle.scope_facts.proofs.FilledTyped.{scope_kind}
 use Rattle.scope_facts.proofs.BareTyped.{empty_made}

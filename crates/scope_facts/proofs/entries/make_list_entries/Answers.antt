@@ -1,6 +1,4 @@
-use Rattle.std.proofs.Common.{◌≤◌, ◌^◌, ap, ◌≡◌, ◌∙◌, sym, subst, get_or}
-use Rattle.bast_schema.specs.Tree.{count, listed, more}
-use Rattle.bast_schema.specs.View.{data_of}
+use Rattle.std.proofs.Common.{◌∙◌, sym}
 use Rattle.scope_facts.proofs.Sizes.{first_list_bounded}
 use Rattle.scope_facts.proofs.entries.make_list_entries.Goals as goal
 

@@ -1,7 +1,5 @@
-use Rattle.std.proofs.Common.{refl, ◌∙◌, sym, ap, arith, ◌≤◌, ◌^◌, ◌≡◌}
-use Rattle.bast_schema.specs.Counts.{size_at}
-use Rattle.bast_schema.specs.View.{datum, data_of}
-use Rattle.scope_facts.specs.Names.{bound}
+use Rattle.std.proofs.Common.{refl, ◌∙◌, ap, arith}
+use Rattle.bast_schema.specs.View.{data_of}
 use Rattle.scope_facts.specs.Filled.{filled_in}
 use Rattle.scope_facts.proofs.Loops.{item_weighs, item_size, step_on}
 use Rattle.scope_facts.proofs.FilledItems.{filled_step}

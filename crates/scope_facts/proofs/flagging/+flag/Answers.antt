@@ -3,7 +3,7 @@ use Rattle.bast_schema.specs.Tree.{depth_in, weight}
 use Rattle.bast_schema.specs.View.{datum, data_of}
 use Rattle.scope_facts.specs.Uses.{first_name, evals_at, is_use_named, used_in, crossed_in, used_among, crossed_among}
 use Rattle.scope_facts.specs.Flagged.{scope_by}
-use Rattle.scope_facts.specs.Covers.{cover_of, is_caught, inside_now, AreWithin, Touches}
+use Rattle.scope_facts.specs.Covers.{cover_of, is_caught, AreWithin, Touches}
 use Rattle.scope_facts.proofs.Loops.{item_weighs, item_depth, step_on}
 use Rattle.scope_facts.proofs.FlaggedItems.{flagged_step, evals_last}
 use Rattle.scope_facts.proofs.FlaggedTyped.{flagged_made}

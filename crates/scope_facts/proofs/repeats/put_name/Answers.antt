@@ -1,4 +1,4 @@
-use Rattle.std.proofs.Common.{Bool, true, false, not, ◌≡◌, ◌∙◌, sym}
+use Rattle.std.proofs.Common.{Bool, true, false, not, ◌≡◌, sym}
 use Rattle.std.specs.List.{list_any}
 use Rattle.scope_facts.specs.Names.{same}
 use Rattle.scope_facts.proofs.Once.{once_new}
