@@ -10,5 +10,8 @@ pub mod OneTree
 pub mod OutputLemmas
 pub mod Outputs
 pub mod ReadFile
+pub mod Scan
+pub mod SourceAnswers
 pub mod SourceFile
+pub mod Statements
 pub mod Used

@@ -9,11 +9,14 @@ use Rattle.container.specs.Atoms.{atoms}
 use Rattle.container.specs.InFile.{InFile}
 use Rattle.binast_run.specs.File.{file, nothing}
 use Rattle.binast_run.specs.FirstKinds.{first_other}
+use Rattle.binast_run.specs.FirstSource.{IsFirstSource}
 use Rattle.binast_run.specs.Reading.{first_fault, IsFileOfScript}
+use Rattle.binast_run.specs.Result.{most_bytes}
 use Rattle.binast_run.specs.SourceTree.{source_tree}
 
 abbrev pub FilesOfFirstSourcesAreInGrammar : Type 0
-FilesOfFirstSourcesAreInGrammar = (n : ℕ) → n < 2 ^ 53 → InFile (file nothing (source_tree n)) nothing (source_tree n)
+FilesOfFirstSourcesAreInGrammar =
+    (ns text : List ℕ) → IsFirstSource ns text → length text ≤ most_bytes → InFile (file nothing (source_tree ns)) nothing (source_tree ns)
 
 -- a file that is read as a tree without windows is in the grammar, and spells that tree
 abbrev pub FilesThatAreReadAreInGrammar : Type 0

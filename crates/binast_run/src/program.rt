@@ -8,14 +8,11 @@ ghost use Rattle.binast_run.specs.declared.status.Fault.TheVariants.{BadWords, R
 
 use crate::command::command_of;
 use crate::gate::Gate;
-use crate::outcome::{Outcome, outcome_of};
+use crate::outcome::{MOST_BYTES, Outcome, outcome_of};
 use crate::output::write_all;
 use crate::status::Fault;
 use bast_base::{Chars, FillError, Memory, Sink, Source, Steps, Tape};
 use std::alloc::Global;
-
-// How many bytes an input may have.
-const INPUT_LIMIT: u32 = 8_388_608;
 
 /// Does all that the program does, and answers its status.
 ///
@@ -65,7 +62,7 @@ pub fn run<L: Send + Sync, S: Source<L>, K: Sink, N: Sink, G: Gate>(
     let Some(command) = command_of(words) else {
         return tell(notes, Fault::BadWords);
     };
-    let tape = match Tape::read_from(alloc, source, INPUT_LIMIT) {
+    let tape = match Tape::read_from(alloc, source, MOST_BYTES) {
         Ok(tape) => tape,
         Err(FillError::Memory) => return tell(notes, Fault::OutOfMemory),
         Err(FillError::ReadFault) => return tell(notes, Fault::ReadFault),

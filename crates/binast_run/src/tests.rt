@@ -71,24 +71,59 @@ fn encodes_whole_numbers(rt: HostRuntime) -> Result<(), Fail> {
     Ok(())
 }
 
+// Each text with the length of its longest front that begins a first source.
 #[test]
 fn refuses_other_sources(rt: HostRuntime) -> Result<(), Fail> {
     let alloc = rt.alloc();
-    for text in [
-        "1.5;",
-        "01;",
-        "1",
-        "9007199254740992;",
-        "",
-        ";",
-        "1;;",
-        "a;",
-        " 1;",
-    ] {
-        let refused = run_whole(alloc, "encode eager", text.as_bytes())?;
-        assert_eq!(rt; refused.status, 1);
-        assert_eq!(rt; refused.notes.written(), b"source: NotYet\n".as_slice());
-        assert_eq!(rt; refused.sink.written().len(), 0);
+    let cases: [(&str, u32); 16] = [
+        ("1.5;", 1),
+        ("01;", 1),
+        ("00;", 1),
+        ("1", 1),
+        ("0", 1),
+        ("9007199254740991", 16),
+        ("9007199254740992;", 15),
+        ("90071992547409910;", 16),
+        (";", 0),
+        ("1;;", 2),
+        ("a;", 0),
+        ("1 ;", 1),
+        (" 1;\t", 3),
+        ("1; 2", 4),
+        ("1;\n\n2;x", 6),
+        ("\u{FF}", 0),
+    ];
+    for (text, at) in cases {
+        let line = format!(in alloc; "source: NotYet at {at}\n")?;
+        assert!(rt; refuses(alloc, "encode eager", text.as_bytes(), line.as_str())?);
+    }
+    Ok(())
+}
+
+// A text of nothing but blanks is an empty script.
+#[test]
+fn encodes_blanks_as_an_empty_script(rt: HostRuntime) -> Result<(), Fail> {
+    let alloc = rt.alloc();
+    for text in ["", " ", "\n", " \n \n\n"] {
+        let done = run_whole(alloc, "encode eager", text.as_bytes())?;
+        assert_eq!(rt; done.status, 0);
+        assert_eq!(rt; done.sink.written(), EMPTY);
+        assert_eq!(rt; done.notes.written().len(), 0);
+    }
+    Ok(())
+}
+
+#[test]
+fn encodes_a_statement_for_each_number(rt: HostRuntime) -> Result<(), Fail> {
+    let alloc = rt.alloc();
+    let done = run_whole(alloc, "encode eager", b"1; 2;")?;
+    let tree = b"\0\0\x02\0\0\x04\x04\x06\x3F\xF0\0\0\0\0\0\0\x04\x06\x40\0\0\0\0\0\0\0";
+    assert_eq!(rt; done.status, 0);
+    assert_eq!(rt; done.sink.written().len(), 166);
+    assert!(rt; done.sink.written().ends_with(tree));
+    for text in ["1;2;", "\n1;\n2;\n", "  1;2; "] {
+        let same = run_whole(alloc, "encode eager", text.as_bytes())?;
+        assert_eq!(rt; same.sink.written(), done.sink.written());
     }
     Ok(())
 }
