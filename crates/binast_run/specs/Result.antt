@@ -1,5 +1,5 @@
 -- What the program answers to words and an input.
-use Rattle.std.specs.Prelude.{◌≡◌, ℕ, ◌<◌, ◌≤◌, List, [], length, codes, Option, Some, None, IfSome}
+use Rattle.std.specs.Prelude.{◌≡◌, ℕ, ◌<◌, ◌≤◌, List, [], length, codes, Option, Some, None, IfSome, IsTrue, is_some, ◌⊎◌}
 use Rattle.std.specs.Io.KnownBytes.{Appends}
 use Rattle.bast_base.specs.declared.errors.FormatFault.{FormatFault}
 use Rattle.bast_schema.specs.Tree.{Tree}
@@ -91,3 +91,16 @@ OutputsFront words left left' old new = IfSome left (λ input. (text : List ℕ)
 -- the input is refused, and notes has the line that says why
 abbrev pub Refuses : List (List ℕ) → Option (List ℕ) → Option (List ℕ) → Option (List ℕ) → Option (List ℕ) → ℕ → ℕ → Type 0
 Refuses words left left' old new before now = IfSome left (λ input. (text : List ℕ) × Answers words input left' (refusal text) × Notes old new before now text)
+
+-- the status is that of an answer of the words to the input, unless memory ran out
+abbrev pub IsAnswered : List (List ℕ) → List ℕ → ℕ → Type 0
+IsAnswered words input status = (status ≡ 5) ⊎ ((a : Answer) × AnswersWords (command_in words) input a × (status ≡ a.status))
+
+-- A command whose input has no more bytes than it may is answered where neither count of faults rose.
+abbrev pub IsComplete : List (List ℕ) → List ℕ → Type 0 → Type 0 → ℕ → Type 0
+IsComplete words input source_rose sink_rose status =
+    IsTrue (is_some (command_in words)) → length input ≤ most_bytes → (source_rose → ⊥) → (sink_rose → ⊥) → IsAnswered words input status
+
+-- each output that answers the words takes no more bytes than these
+abbrev pub FitsIn : List (List ℕ) → List ℕ → ℕ → Type 0
+FitsIn words input spare = (text : List ℕ) → AnswersWords (command_in words) input (output text) → length text ≤ spare
