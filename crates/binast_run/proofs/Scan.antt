@@ -199,8 +199,8 @@ stop_begins None [] at small e = cc
 stop_begins (Some n) [] at small e = let none : at ≡ 0 = cc in rw none (completed (Some n) small)
 stop_begins number (c ∷ cs) at small e =
     elim (begins_after (step number c) cs at (step_small number c small) (λ o j. stop_begins o cs j) e) [
-      inl none ↦ rw none (completed number small)
-    | inr h ↦ rw h.1 (h.2, h.3, stepped number c h.2 (take h.0 cs ++ h.3) small h.4)
+      | inl none ↦ rw none (completed number small)
+      | inr h ↦ rw h.1 (h.2, h.3, stepped number c h.2 (take h.0 cs ++ h.3) small h.4)
     ]
 
 -- but no longer front does

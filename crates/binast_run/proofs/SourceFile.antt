@@ -78,33 +78,56 @@ statements_length [] = refl
 statements_length (n ∷ ns) = let rest = statements_length ns in omega (arith, rest)
 
 -- the tree's bytes, and the container's
-tree_length : (n : ℕ) (ns : List ℕ) → length ns < 2 ^ 31 → length (spelled four nothing (source_tree (n ∷ ns))) ≤ 50 + 10 * length ns
-tree_length n ns few =
-    let several : count (statements (n ∷ ns)) < 2 ^ 32 = omega (arith, statements_count ns)
-    in grind (arith, common_steps, varnum-short 0, varnum-short 1, varnum-short (count (statements (n ∷ ns))), statements_length (n ∷ ns))
+zero_length : length (varnum 0) ≡ 1
+unfolding varnum
+zero_length = refl
+
+one_length : length (varnum 1) ≡ 1
+unfolding varnum
+one_length = refl
+
+tree_length : (n : ℕ) (ns : List ℕ) → length (spelled four nothing (source_tree (n ∷ ns))) ≡ 5 + length (varnum (length (n ∷ ns))) + 10 * length (n ∷ ns)
+tree_length n ns =
+    rw (← statements_count (n ∷ ns)) (grind (arith, common_steps, zero_length, one_length, statements_count (n ∷ ns), statements_length (n ∷ ns)))
 
 abbrev front : List ℕ
 front = codes "BINJS" ++ varnum 1 ++ section (codes "[GRAMMAR]") (grammar four.kinds) ++ section (codes "[STRINGS]") (strings four.texts)
 
-front_length : length front ≤ 200
+front_length : length front ≡ 124
 unfolding varnum
-front_length = lit≤ tt
+front_length = refl
 
-container_length : (tree : List ℕ) → length tree < 2 ^ 32 → length (container four tree) ≤ 300 + length tree
+container_length : (tree : List ℕ) → length (container four tree) ≡ 139 + length (varnum (length tree)) + length tree
 unfolding container
-container_length tree small = omega (arith, length-append front (section (codes "[TREE]") tree), front_length, length-append (codes "[TREE]" ++ codes "identity;") (varnum (length tree) ++ tree), length-append (varnum (length tree)) tree, varnum-short (length tree) small)
+container_length tree = omega (arith, length-append front (section (codes "[TREE]") tree), front_length, length-append (codes "[TREE]" ++ codes "identity;") (varnum (length tree) ++ tree), length-append (varnum (length tree)) tree)
 
-empty_length : length (file nothing (source_tree [])) ≤ 300
+empty_file_length : length (file nothing (source_tree [])) ≡ 101
 unfolding varnum container
-empty_length = lit≤ tt
+empty_file_length = refl
+
+source_file_length : (n : ℕ) (ns : List ℕ) (tree : ℕ) → tree ≡ 5 + length (varnum (length (n ∷ ns))) + 10 * length (n ∷ ns) → length (file nothing (source_tree (n ∷ ns))) ≡ 139 + length (varnum tree) + tree
+source_file_length n ns tree is =
+    rw (source_tables n ns, is, ← tree_length n ns) (container_length (spelled four nothing (source_tree (n ∷ ns))))
+
+pub no_file_length : (ns : List ℕ) → length ns ≡ 0 → 101 ≡ length (file nothing (source_tree ns))
+no_file_length [] none = sym empty_file_length
+no_file_length (n ∷ ns) none = absurd (omega arith)
+
+pub some_file_length : (ns : List ℕ) (counted treed : ℕ) → 0 < length ns → counted ≡ length (varnum (length ns)) → treed ≡ length (varnum (5 + counted + 10 * length ns))
+    → 139 + treed + (5 + counted + 10 * length ns) ≡ length (file nothing (source_tree ns))
+some_file_length [] counted treed some is is_tree = absurd (omega arith)
+some_file_length (n ∷ ns) counted treed some is is_tree =
+    let tree = 5 + counted + 10 * length (n ∷ ns)
+    in let same : tree ≡ 5 + length (varnum (length (n ∷ ns))) + 10 * length (n ∷ ns) = ap (λ (x : ℕ). 5 + x + 10 * length (n ∷ ns)) is
+    in rw is_tree (sym (source_file_length n ns tree same))
 
 -- as many statements as an input has room for make a file that can be written
 pub source_file_small : (ns : List ℕ) → length ns ≤ 2 ^ 22 → length (file nothing (source_tree ns)) < 2 ^ 32
-source_file_small [] few = omega (arith, empty_length)
+source_file_small [] few = omega (arith, empty_file_length)
 source_file_small (n ∷ ns) few =
-    let tree = tree_length n ns (omega arith)
-    in let whole = container_length (spelled four nothing (source_tree (n ∷ ns))) (omega (arith, tree))
-    in rw (source_tables n ns) (omega (arith, tree, whole))
+    let tree = 5 + length (varnum (length (n ∷ ns))) + 10 * length (n ∷ ns)
+    in let counted = varnum-short (length (n ∷ ns)) (omega (arith, few))
+    in omega (arith, few, counted, varnum-short tree (omega (arith, few, counted)), source_file_length n ns tree refl)
 
 kinds_distinct : IsDistinct same_kind four.kinds
 unfolding IsDistinct

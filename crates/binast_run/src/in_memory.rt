@@ -7,8 +7,8 @@ use crate::program::run;
 use bast_base::{Chars, Steps, SureSink, SureSource};
 use std::alloc::Global;
 
-/// Runs the program between two buffers, the second of which has room for each answer: neither fails, so a command is
-/// answered unless memory runs out or its input is too large.
+/// Runs the program between two buffers, which fail only where the second has no room left: so a command is answered
+/// there, unless memory runs out or its input is too large.
 pub fn run_in_memory<G: Gate>(
     alloc: Global,
     words: &[Chars],
@@ -17,11 +17,10 @@ pub fn run_in_memory<G: Gate>(
     notes: &mut SureSink,
     gate: &G,
 ) -> u8
-    requires fresh { sink.old.faults < 2 ^ 64 - 1 }
-    requires room { FitsIn words.now source.old sink.old.spare }
     ensures read { result ≡ 3 → ⊥ }
-    ensures written { result ≡ 4 → ⊥ }
-    ensures answered { IsTrue (is_some (command_in words.now)) → length source.old ≤ most_bytes → IsAnswered words.now source.old result }
+    ensures written { sink.old.faults < 2 ^ 64 - 1 → FitsIn words.now source.old sink.old.spare → result ≡ 4 → ⊥ }
+    ensures answered { sink.old.faults < 2 ^ 64 - 1 → FitsIn words.now source.old sink.old.spare → IsTrue (is_some (command_in words.now))
+        → length source.old ≤ most_bytes → IsAnswered words.now source.old result }
 {
     let mut steps = Steps::many();
     run(alloc, words, source, sink, notes, gate, &mut steps)

@@ -42,10 +42,7 @@ pub(crate) fn source_not_yet_line(alloc: Global, at: u32) -> Result<String, Memo
 pub(crate) fn large_file_line(alloc: Global) -> Result<String, Memory>
     ensures { IfOk result (λ text. string_bytes text ≡ large_file) }
 {
-    Ok(String::from_str(
-        alloc,
-        "file: larger than 8388608 bytes\n",
-    )?)
+    Ok(String::from_str(alloc, "file: larger than 8388608 bytes\n")?)
 }
 
 // The line of an accepted file of so many bytes, which has no lazy function.

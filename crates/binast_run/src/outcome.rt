@@ -13,6 +13,7 @@ use crate::lines::{large_file_line, source_not_yet_line};
 use crate::source_tree::source_tree_of;
 use bast_base::{Memory, Steps, Tape};
 use std::alloc::Global;
+use var_numbers::varnum_len;
 
 // How many bytes an input and an encoded file may have.
 pub(crate) const MOST_BYTES: u32 = 8_388_608;
@@ -50,17 +51,27 @@ fn encode_eager(alloc: Global, text: &[u8]) -> Result<Outcome, Memory>
     requires { length text.now ≤ most_bytes }
     ensures { IfOk result (λ outcome. AnswersSource text.now (answer_in outcome)) }
 {
-    match first_source_of(alloc, text)? {
-        Err(at) => Ok(refused(source_not_yet_line(alloc, at)?)),
-        Ok(wholes) => {
-            let bytes = file_of(alloc, &wholes)?;
-            if bytes.len() > MOST_BYTES as usize {
-                Ok(refused(large_file_line(alloc)?))
-            } else {
-                Ok(Outcome::Output(bytes))
-            }
-        }
+    let wholes = match first_source_of(alloc, text)? {
+        Ok(wholes) => wholes,
+        Err(at) => return Ok(refused(source_not_yet_line(alloc, at)?)),
+    };
+    if file_len(&wholes) > MOST_BYTES {
+        return Ok(refused(large_file_line(alloc)?));
     }
+    Ok(Outcome::Output(file_of(alloc, &wholes)?))
+}
+
+// How many bytes the file of these numbers has. So one that is too large is not made.
+fn file_len(wholes: &[u64]) -> u32
+    requires { 2 * length wholes.now ≤ most_bytes }
+    ensures { result ≡ length (file nothing (source_tree wholes.now)) }
+{
+    let count = wholes.len() as u32;
+    if count == 0 {
+        return 101;
+    }
+    let tree = 5 + varnum_len(count) + 10 * count;
+    139 + varnum_len(tree) + tree
 }
 
 // The file of the first source of these numbers.
