@@ -11,7 +11,7 @@ use Rattle.binast_run.specs.File.{file, nothing}
 use Rattle.binast_run.specs.FirstKinds.{first_other}
 use Rattle.binast_run.specs.FirstSource.{IsFirstSource}
 use Rattle.binast_run.specs.Reading.{first_fault, IsFileOfScript}
-use Rattle.binast_run.specs.Result.{most_bytes}
+use Rattle.binast_run.specs.Result.{Answer, AnswersSource, most_bytes}
 use Rattle.binast_run.specs.SourceTree.{source_tree}
 
 abbrev pub FilesOfFirstSourcesAreInGrammar : Type 0
@@ -37,3 +37,7 @@ FilesHaveOneTree = (bytes : List ℕ) (h g : Held) (t u : Tree) → InFile bytes
 abbrev pub FilesOfFirstKindsAreReadSo : Type 0
 FilesOfFirstKindsAreReadSo =
     (bytes : List ℕ) (h : Held) (t : Tree) (l : Layout) (u : Tree) → InFile bytes h t → first_other t ≡ None → IsFileOfScript bytes l u → first_other u ≡ None
+
+-- a source has one answer
+abbrev pub SourcesHaveOneAnswer : Type 0
+SourcesHaveOneAnswer = (input : List ℕ) (a b : Answer) → AnswersSource input a → AnswersSource input b → a ≡ b

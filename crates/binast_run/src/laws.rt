@@ -1,5 +1,5 @@
 // What holds of the definitions alone.
-ghost use Rattle.binast_run.specs.Laws.{FilesHaveOneTree, FilesInGrammarHaveNoFault, FilesOfFirstKindsAreReadSo, FilesOfFirstSourcesAreInGrammar, FilesThatAreReadAreInGrammar};
+ghost use Rattle.binast_run.specs.Laws.{FilesHaveOneTree, FilesInGrammarHaveNoFault, FilesOfFirstKindsAreReadSo, FilesOfFirstSourcesAreInGrammar, FilesThatAreReadAreInGrammar, SourcesHaveOneAnswer};
 
 /// The file of a first source is in the grammar of files, and spells that source's tree.
 pub fn files_of_first_sources_are_in_grammar()
@@ -24,4 +24,9 @@ pub fn files_have_one_tree()
 /// A file in the grammar of files whose tree has the first kinds alone is read as such a tree.
 pub fn files_of_first_kinds_are_read_so()
     ensures { FilesOfFirstKindsAreReadSo }
+{}
+
+/// A source has one answer.
+pub fn sources_have_one_answer()
+    ensures { SourcesHaveOneAnswer }
 {}

@@ -164,9 +164,9 @@ fn encode_in_chunks(
         Chars::of(String::from_str(alloc, "encode")?),
         Chars::of(String::from_str(alloc, "eager")?),
     ]?;
-    let mut source = MemSource::new(input.to_vec(alloc)?, chunk, failing_reads);
-    let mut sink = MemSink::new(vec![in alloc; 0; 400]?, chunk, failing_writes);
-    let mut notes = MemSink::new(vec![in alloc; 0; 100]?, chunk, Vec::new(alloc));
+    let mut source = MemSource::new(input.to_vec(alloc)?, chunk.max(1), failing_reads);
+    let mut sink = MemSink::new(vec![in alloc; 0; 400]?, chunk.max(1), failing_writes);
+    let mut notes = MemSink::new(vec![in alloc; 0; 100]?, chunk.max(1), Vec::new(alloc));
     let mut steps = Steps::many();
     let status = run(
         alloc,
