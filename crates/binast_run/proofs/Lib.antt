@@ -6,6 +6,7 @@ pub mod FirstWhole
 pub mod InGrammar
 pub mod NamedTrees
 pub mod NodesSpelled
+pub mod OneAnswer
 pub mod OneTree
 pub mod OutputLemmas
 pub mod Outputs

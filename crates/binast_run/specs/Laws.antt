@@ -7,11 +7,12 @@ use Rattle.bast_schema.specs.Tree.{Tree}
 use Rattle.container.specs.declared.layout.Layout.{Layout}
 use Rattle.container.specs.Atoms.{atoms}
 use Rattle.container.specs.InFile.{InFile}
+use Rattle.binast_run.specs.declared.command.Command.{Command}
 use Rattle.binast_run.specs.File.{file, nothing}
 use Rattle.binast_run.specs.FirstKinds.{first_other}
 use Rattle.binast_run.specs.FirstSource.{IsFirstSource}
 use Rattle.binast_run.specs.Reading.{first_fault, IsFileOfScript}
-use Rattle.binast_run.specs.Result.{Answer, AnswersSource, most_bytes}
+use Rattle.binast_run.specs.Result.{Answer, AnswersInput, most_bytes}
 use Rattle.binast_run.specs.SourceTree.{source_tree}
 
 abbrev pub FilesOfFirstSourcesAreInGrammar : Type 0
@@ -38,6 +39,10 @@ abbrev pub FilesOfFirstKindsAreReadSo : Type 0
 FilesOfFirstKindsAreReadSo =
     (bytes : List ℕ) (h : Held) (t : Tree) (l : Layout) (u : Tree) → InFile bytes h t → first_other t ≡ None → IsFileOfScript bytes l u → first_other u ≡ None
 
--- a source has one answer
-abbrev pub SourcesHaveOneAnswer : Type 0
-SourcesHaveOneAnswer = (input : List ℕ) (a b : Answer) → AnswersSource input a → AnswersSource input b → a ≡ b
+-- an input has one answer of each command
+abbrev pub InputsHaveOneAnswer : Type 0
+InputsHaveOneAnswer = (command : Command) (input : List ℕ) (a b : Answer) → AnswersInput command input a → AnswersInput command input b → a ≡ b
+
+-- a file is read as one tree, over one layout
+abbrev pub FilesAreReadAsOneTree : Type 0
+FilesAreReadAsOneTree = (bytes : List ℕ) (l m : Layout) (t u : Tree) → IsFileOfScript bytes l t → IsFileOfScript bytes m u → (l ≡ m) × (t ≡ u)

@@ -28,7 +28,7 @@ use Rattle.container.specs.Tables.{kind_place}
 use Rattle.tree_decoder.specs.Found.{is_text, stands, stands_at, all_stand}
 use Rattle.tree_decoder.specs.Left.{is_folded, folded, folded_at, folded_fields, folded_items}
 use Rattle.tree_decoder.specs.Outcome.{Outcome}
-use Rattle.tree_decoder.specs.Range.{Range, IsSound, held}
+use Rattle.tree_decoder.specs.Range.{Range, held}
 use Rattle.tree_decoder.specs.Script.{IsScript}
 use Rattle.tree_decoder.specs.Windows.{windows, windows_at, windows_in}
 use Rattle.tree_decoder.proofs.Accepts.{first_atom, other_atoms, front_atoms, back_atoms}
@@ -382,8 +382,8 @@ one_child : (t u : Tree) → child t ≡ child u → t ≡ u
 one_child t u e = cc
 
 -- the roots
-pub one_script : (r : Range) (at : ℕ) (t u : Tree) → IsSound r → IsScript r at t → IsScript r at u → t ≡ u
-one_script r at (branch k ds) (branch j es) sound p q =
+pub one_script : (r : Range) (at : ℕ) (t u : Tree) → AreDistinct r.tables.texts → IsScript r at t → IsScript r at u → t ≡ u
+one_script r at (branch k ds) (branch j es) apart p q =
     let s = r.tables in
     let h = held r in
     let bytes : spelled s h (branch k ds) ++ [] ≡ spelled s h (branch j es) ++ [] = ap (λ (b : List ℕ). b ++ []) (sym p.spelled ∙ q.spelled) in
@@ -391,5 +391,5 @@ one_script r at (branch k ds) (branch j es) sound p q =
     let known : KnownIn r (fields k) ds = record { fits = p.typed; stands = p.stands; has = other_atoms s (atom.kind k) (atoms_of_fields h (fields k) ds) p.has_all; folded = p.folded } in
     let other : KnownIn r (fields j) es = record { fits = q.typed; stands = q.stands; has = other_atoms s (atom.kind j) (atoms_of_fields h (fields j) es) q.has_all; folded = q.folded } in
     let one = node_one r k j ds es [] [] [] [] (kind_had r k ds p.has_all) (kind_had r j es q.has_all) other bytes (ap (λ (ws : List (ℕ × ℕ)). ws ++ []) found)
-          (λ there is others. fields_one r ds (fields k) es [] [] [] [] sound.texts (fields_no_null k) known there is others) in
+          (λ there is others. fields_one r ds (fields k) es [] [] [] [] apart (fields_no_null k) known there is others) in
     one_child (branch k ds) (branch j es) one.same

@@ -8,7 +8,8 @@ use Rattle.container.specs.Atoms.{atoms}
 use Rattle.container.specs.InFile.{has_atom}
 use Rattle.container.specs.Spelled.{spelled}
 use Rattle.container.specs.Tables.{Tables}
-use Rattle.tree_decoder.specs.Range.{Range, IsSound}
+use Rattle.string_table.specs.Entries.{AreDistinct}
+use Rattle.tree_decoder.specs.Range.{Range}
 use Rattle.tree_decoder.specs.Script.{IsScript}
 
 -- a well-typed tree without windows whose kinds and texts, those of h, stand in the tables
@@ -21,6 +22,6 @@ pub record IsOver (s : Tables) (h : Held) (t : Tree) : Type 0 where
 abbrev pub IsOneTree : Type 0
 IsOneTree = (s : Tables) (h g : Held) (t u : Tree) → IsOver s h t → IsOver s g u → spelled s h t ≡ spelled s g u → atoms h t ≡ atoms g u
 
--- a script that is read at a place is the only one, with its windows
+-- where no text stands twice, a script that is read at a place is the only one, with its windows
 abbrev pub ScriptsAreOne : Type 0
-ScriptsAreOne = (r : Range) (at : ℕ) (t u : Tree) → IsSound r → IsScript r at t → IsScript r at u → t ≡ u
+ScriptsAreOne = (r : Range) (at : ℕ) (t u : Tree) → AreDistinct r.tables.texts → IsScript r at t → IsScript r at u → t ≡ u

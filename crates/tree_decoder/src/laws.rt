@@ -26,7 +26,8 @@ pub fn fault_is_first_behind_row()
     ensures { IsFirstBehindRow }
 {}
 
-/// The script that is read at a place is the only one, with its windows. It does nothing: its clause is the law.
+/// Where no text stands twice, the script that is read at a place is the only one, with its windows. It does nothing: its
+/// clause is the law.
 pub fn scripts_are_one()
     ensures { ScriptsAreOne }
 {}
