@@ -7,7 +7,7 @@ use Rattle.std.specs.Char.{is_ascii_digit}
 use Rattle.binast_run.specs.declared.first_source.Step.{Step}
 use Rattle.binast_run.specs.declared.first_source.Step.TheVariants.{Stays, Within, Ends, Stops}
 use Rattle.binast_run.specs.FirstScan.{goes_on, step, behind, after, scan}
-use Rattle.binast_run.specs.FirstSource.{value_from, are_digits, whole_number, is_blank, IsItem, IsFirstSource, BeginsFirstSource, IsNoFirstSource}
+use Rattle.binast_run.specs.FirstSource.{value_from, are_digits, whole_number, is_blank, IsFirstSource, IsNoFirstSource}
 use Rattle.binast_run.proofs.DigitLemmas.{value_from-ge}
 
 -- What completes a text that stands behind the digits of a number: more digits, a semicolon, and a first source.

@@ -1,8 +1,7 @@
 -- The file of a first source.
-use Rattle.std.proofs.Common.{◌≡◌, ℕ, zero, suc, ◌+◌, ◌*◌, ◌<◌, ◌≤◌, ◌^◌, Bool, true, false, List, [], ◌∷◌, ◌++◌, length, codes, None, refl, ap, sym, subst, ◌∙◌, lit<, lit≤, arith, length-append, append-nil}
+use Rattle.std.proofs.Common.{◌≡◌, ℕ, suc, ◌+◌, ◌*◌, ◌<◌, ◌≤◌, ◌^◌, true, false, List, [], ◌∷◌, ◌++◌, length, codes, refl, ap, sym, ◌∙◌, lit<, lit≤, arith, length-append, append-nil}
 use Rattle.std.proofs.lemmas.Grind.{common_steps}
-use Rattle.std.specs.Int.{w64, to_be_bytes}
-use Rattle.std.proofs.lemmas.Bool.{lt-ltb, le-ltb, and_from}
+use Rattle.std.proofs.lemmas.Bool.{lt-ltb, le-ltb}
 use Rattle.std.specs.List.{All, IsDistinct, list_all}
 use Rattle.std.specs.Result.{IsOk}
 use Rattle.bast_schema.specs.declared.kind.Kind.TheVariants.{Script, AssertedScriptGlobalScope, ExpressionStatement, LiteralNumericExpression}

@@ -1,5 +1,5 @@
 -- What the program answers to words and an input.
-use Rattle.std.specs.Prelude.{◌≡◌, ℕ, ◌<◌, ◌≤◌, List, [], length, codes, Option, Some, None, IfSome, IsTrue, is_some, ◌⊎◌}
+use Rattle.std.specs.Prelude.{◌≡◌, ℕ, ◌<◌, ◌≤◌, List, [], length, Option, Some, None, IfSome, IsTrue, is_some, ◌⊎◌}
 use Rattle.std.specs.Io.KnownBytes.{Appends}
 use Rattle.bast_base.specs.declared.errors.FormatFault.{FormatFault}
 use Rattle.bast_schema.specs.Tree.{Tree}
@@ -16,7 +16,7 @@ use Rattle.binast_run.specs.Lines.{accepted_line, fault_line, large_file_line, n
 use Rattle.binast_run.specs.Output.{AppendsFront}
 use Rattle.binast_run.specs.Reading.{first_fault, IsFileOfScript}
 use Rattle.binast_run.specs.SourceTree.{source_tree}
-use Rattle.binast_run.specs.Status.{line, line_of}
+use Rattle.binast_run.specs.Status.{line_of}
 use Rattle.binast_run.specs.Words.{command_in}
 
 -- a status, and the output for 0 or the line for another

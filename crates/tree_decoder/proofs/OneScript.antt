@@ -1,5 +1,5 @@
 -- A script is the only one that is spelled at its place.
-use Rattle.std.proofs.Common.{ℕ, zero, suc, ◌≡◌, ◌<◌, Bool, true, false, not, ◌&&◌, ◌||◌, List, [], ◌∷◌, ◌++◌, length, Option, Some, None, get_or, refl, sym, ap, subst, ◌∙◌, append_assoc, append-nil, slice_get, arith}
+use Rattle.std.proofs.Common.{ℕ, zero, suc, ◌≡◌, ◌<◌, Bool, true, false, not, ◌&&◌, ◌||◌, List, [], ◌∷◌, ◌++◌, length, Option, Some, None, get_or, refl, sym, ap, subst, ◌∙◌, append_assoc, slice_get, arith}
 use Rattle.std.specs.List.{list_all}
 use Rattle.std.proofs.lemmas.Bool.{ltb-true, and_from}
 use Rattle.var_numbers.specs.Varnum.{varnum}
@@ -14,7 +14,7 @@ use Rattle.bast_schema.specs.declared.kind.Union.TheVariants.{Body}
 use Rattle.bast_schema.specs.Choices.{choice_texts, choice_of_text}
 use Rattle.bast_schema.specs.Fields.{fields}
 use Rattle.bast_schema.specs.Held.{Held}
-use Rattle.bast_schema.specs.Tree.{Tree, branch, Datum, child, absent, listed, flag, index, whole, name, no_name, choice, window, Data, none, more, fits, fit, items_fit, item_type, is_none, count, typed, kind_of}
+use Rattle.bast_schema.specs.Tree.{Tree, branch, Datum, child, absent, listed, flag, index, whole, name, no_name, choice, window, Data, none, more, fits, fit, items_fit, item_type, is_none, count}
 use Rattle.bast_schema.specs.Unions.{allowed}
 use Rattle.bast_schema.proofs.Both.{and_first, and_second}
 use Rattle.bast_schema.proofs.ChoiceTexts.{choice_of_its_text}
@@ -25,15 +25,15 @@ use Rattle.container.specs.Atoms.{Atom, atoms_of, atoms_of_fields, atoms_of_item
 use Rattle.container.specs.InFile.{has_atom}
 use Rattle.container.specs.Spelled.{framed, spelled, spelled_at, spelled_items, spelled_fields}
 use Rattle.container.specs.Tables.{kind_place}
-use Rattle.tree_decoder.specs.Found.{is_text, stands, stands_at, all_stand}
-use Rattle.tree_decoder.specs.Left.{is_folded, folded, folded_at, folded_fields, folded_items}
+use Rattle.tree_decoder.specs.Found.{is_text, stands_at, all_stand}
+use Rattle.tree_decoder.specs.Left.{is_folded, folded_at, folded_fields, folded_items}
 use Rattle.tree_decoder.specs.Outcome.{Outcome}
 use Rattle.tree_decoder.specs.Range.{Range, held}
 use Rattle.tree_decoder.specs.Script.{IsScript}
-use Rattle.tree_decoder.specs.Windows.{windows, windows_at, windows_in}
+use Rattle.tree_decoder.specs.Windows.{windows_at, windows_in}
 use Rattle.tree_decoder.proofs.Accepts.{first_atom, other_atoms, front_atoms, back_atoms}
 use Rattle.tree_decoder.proofs.Nodes.{framed_item, item_atoms, item_spelled}
-use Rattle.tree_decoder.proofs.OneTree.{one_kind, flags_same, indexes_same, wholes_same, is_told, texts_same, parts_same, windows_apart, Same}
+use Rattle.tree_decoder.proofs.OneTree.{one_kind, flags_same, indexes_same, wholes_same, is_told, texts_same, windows_apart, Same}
 
 -- ---- no field may hold a node of the absent kind
 
@@ -341,8 +341,8 @@ mutual
       let pf = first_folded t v (folded_fields ts ds) p.folded in
       let qf = first_folded t o (folded_fields ts es) q.folded in
       let first = value_one r v t o (spelled_fields s h ts ds ++ x) (spelled_fields s h ts es ++ y) (windows_in ds ++ w) (windows_in es ++ z) apart (and_first (no_null t) (list_all no_null ts) never)
-            (and_first (fits t v) (fit ts ds) p.fits) (and_first (fits t o) (fit ts es) q.fits) (and_first (stands_at r v) (all_stand r ds) p.stands) (and_first (stands_at r o) (all_stand r es) q.stands)
-            (front_atoms s (atoms_of h t v) (atoms_of_fields h ts ds) p.has) (front_atoms s (atoms_of h t o) (atoms_of_fields h ts es) q.has) pf.0 qf.0 bytes others in
+      (and_first (fits t v) (fit ts ds) p.fits) (and_first (fits t o) (fit ts es) q.fits) (and_first (stands_at r v) (all_stand r ds) p.stands) (and_first (stands_at r o) (all_stand r es) q.stands)
+      (front_atoms s (atoms_of h t v) (atoms_of_fields h ts ds) p.has) (front_atoms s (atoms_of h t o) (atoms_of_fields h ts es) q.has) pf.0 qf.0 bytes others in
       let known : KnownIn r ts ds = record { fits = and_second (fits t v) (fit ts ds) p.fits; stands = and_second (stands_at r v) (all_stand r ds) p.stands; has = back_atoms s (atoms_of h t v) (atoms_of_fields h ts ds) p.has; folded = pf.1 } in
       let other : KnownIn r ts es = record { fits = and_second (fits t o) (fit ts es) q.fits; stands = and_second (stands_at r o) (all_stand r es) q.stands; has = back_atoms s (atoms_of h t o) (atoms_of_fields h ts es) q.has; folded = qf.1 } in
       let rest = fields_one r ds ts es x y w z apart (and_second (no_null t) (list_all no_null ts) never) known other first.rest first.windows in
@@ -368,10 +368,10 @@ mutual
       let bytes = ap (λ (c : List ℕ). c ++ rest_a) plain_a ∙ sym (append_assoc a (spelled_items s h ds) x) ∙ e ∙ append_assoc b (spelled_items s h es) y ∙ ap (λ (c : List ℕ). c ++ rest_b) (sym plain_b) in
       let others = sym (append_assoc (windows_at v) (windows_in ds) w) ∙ ws ∙ append_assoc (windows_at o) (windows_in es) z in
       let first = value_one r v (item_type u holes) o rest_a rest_b (windows_in ds ++ w) (windows_in es ++ z) apart (item_no_null u holes never) pv po
-            (and_first (stands_at r v) (all_stand r ds) p.stands) (and_first (stands_at r o) (all_stand r es) q.stands)
-            (ap (list_all (has_atom s)) (sym (item_atoms h u holes v pv)) ∙ front_atoms s (atoms_of h (field.Optional Body) v) (atoms_of_items h ds) p.has)
-            (ap (list_all (has_atom s)) (sym (item_atoms h u holes o po)) ∙ front_atoms s (atoms_of h (field.Optional Body) o) (atoms_of_items h es) q.has)
-            (item_folded u holes v (and_first (folded_at v) (folded_items ds) p.folded)) (item_folded u holes o (and_first (folded_at o) (folded_items es) q.folded)) bytes others in
+      (and_first (stands_at r v) (all_stand r ds) p.stands) (and_first (stands_at r o) (all_stand r es) q.stands)
+      (ap (list_all (has_atom s)) (sym (item_atoms h u holes v pv)) ∙ front_atoms s (atoms_of h (field.Optional Body) v) (atoms_of_items h ds) p.has)
+      (ap (list_all (has_atom s)) (sym (item_atoms h u holes o po)) ∙ front_atoms s (atoms_of h (field.Optional Body) o) (atoms_of_items h es) q.has)
+      (item_folded u holes v (and_first (folded_at v) (folded_items ds) p.folded)) (item_folded u holes o (and_first (folded_at o) (folded_items es) q.folded)) bytes others in
       let known : KnownItems r u holes ds = record { fits = and_second (fits (item_type u holes) v) (items_fit u holes ds) p.fits; stands = and_second (stands_at r v) (all_stand r ds) p.stands; has = back_atoms s (atoms_of h (field.Optional Body) v) (atoms_of_items h ds) p.has; folded = and_second (folded_at v) (folded_items ds) p.folded } in
       let other : KnownItems r u holes es = record { fits = and_second (fits (item_type u holes) o) (items_fit u holes es) q.fits; stands = and_second (stands_at r o) (all_stand r es) q.stands; has = back_atoms s (atoms_of h (field.Optional Body) o) (atoms_of_items h es) q.has; folded = and_second (folded_at o) (folded_items es) q.folded } in
       let left : suc (count ds) ≡ suc (count es) = c in
@@ -391,5 +391,5 @@ one_script r at (branch k ds) (branch j es) apart p q =
     let known : KnownIn r (fields k) ds = record { fits = p.typed; stands = p.stands; has = other_atoms s (atom.kind k) (atoms_of_fields h (fields k) ds) p.has_all; folded = p.folded } in
     let other : KnownIn r (fields j) es = record { fits = q.typed; stands = q.stands; has = other_atoms s (atom.kind j) (atoms_of_fields h (fields j) es) q.has_all; folded = q.folded } in
     let one = node_one r k j ds es [] [] [] [] (kind_had r k ds p.has_all) (kind_had r j es q.has_all) other bytes (ap (λ (ws : List (ℕ × ℕ)). ws ++ []) found)
-          (λ there is others. fields_one r ds (fields k) es [] [] [] [] apart (fields_no_null k) known there is others) in
+    (λ there is others. fields_one r ds (fields k) es [] [] [] [] apart (fields_no_null k) known there is others) in
     one_child (branch k ds) (branch j es) one.same

@@ -1,4 +1,4 @@
-use Rattle.std.proofs.Common.{◌≡◌, ◌<◌, ◌^◌, ◌≤◌, length, drop, IfSome, None}
+use Rattle.std.proofs.Common.{◌≡◌, ◌<◌, ◌^◌, drop, IfSome, None}
 use Rattle.binast_run.specs.FirstScan.{behind, scan}
 use Rattle.binast_run.proofs.first_source.scan_text.Given as goal
 

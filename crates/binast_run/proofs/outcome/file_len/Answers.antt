@@ -1,4 +1,4 @@
-use Rattle.std.proofs.Common.{arith, length}
+use Rattle.std.proofs.Common.{arith}
 use Rattle.binast_run.proofs.SourceFile.{no_file_length, some_file_length}
 use Rattle.binast_run.proofs.outcome.file_len.Goals as goal
 

@@ -1,9 +1,8 @@
-use Rattle.std.proofs.Common.{◌≡◌, ◌∙◌, sym, ap, arith, drop, suc, ◌+◌, length, add-one, drop_of_length-le}
-use Rattle.bast_schema.specs.Tree.{Data, none, more, child}
-use Rattle.bast_schema.specs.View.{data_of}
+use Rattle.std.proofs.Common.{◌∙◌, sym, ap, add-one, drop_of_length-le}
+use Rattle.bast_schema.specs.Tree.{child}
 use Rattle.bast_schema.specs.declared.node.Value.TheVariants as value
-use Rattle.binast_run.specs.SourceTree.{statement, statements}
-use Rattle.binast_run.proofs.Statements.{in_front, in_front_none, next_statement}
+use Rattle.binast_run.specs.SourceTree.{statements}
+use Rattle.binast_run.proofs.Statements.{in_front_none, next_statement}
 use Rattle.binast_run.proofs.source_tree.statements_of.Goals as goal
 
 pub loop-whole-preserved : goal.loop-whole-preserved
