@@ -1,3 +1,4 @@
 pub mod Choice
 pub mod Classes
 pub mod Rows
+pub mod TokenClasses

@@ -3,11 +3,15 @@
 
 mod class;
 mod firsts;
+mod marks;
+mod row_symbols;
 mod rows;
 mod symbols;
 mod terminals;
 
-pub use class::Class;
+pub use class::{Class, class_of};
+pub use marks::marked;
+pub use row_symbols::symbols_of;
 pub use rows::row;
 pub use symbols::{Level, Mode, RowId, Symbol, Terminal};
 pub use terminals::takes;

@@ -1,6 +1,4 @@
 -- Each row is the one that the symbol's own function gives, whether or not the token stands behind a newline.
-use Rattle.std.proofs.Common.{◌≡◌, sym, ap, ◌∙◌}
-use Rattle.js_grammar.specs.Choice.{row_of}
 use Rattle.js_grammar.proofs.rows.row.Goals as goal
 
 pub returns-in-Items : goal.returns-in-Items
