@@ -3,6 +3,7 @@
 
 mod class;
 mod firsts;
+mod laws;
 mod marks;
 mod row_symbols;
 mod rows;
@@ -10,6 +11,7 @@ mod symbols;
 mod terminals;
 
 pub use class::{Class, class_of};
+pub use laws::alternatives_are_disjoint;
 pub use marks::marked;
 pub use row_symbols::symbols_of;
 pub use rows::row;

@@ -1,0 +1,49 @@
+-- What holds of each class and each symbol, found by computing it.
+use Rattle.std.proofs.Common.{ℕ, Bool, true, false, List, [], ◌∷◌, ◌≡◌, ◌<◌, ◌&&◌, not, refl, lit<, get_or, length, nat_lt, sym, ap, ◌∙◌}
+use Rattle.std.specs.List.{list_all}
+use Rattle.std.proofs.lemmas.List.Folds.{list_all_at}
+use Rattle.js_grammar.specs.declared.class.Class.{Class}
+use Rattle.js_grammar.specs.declared.class.Class.TheVariants as classes
+use Rattle.js_grammar.specs.declared.symbols.Mode.TheVariants as modes
+use Rattle.js_grammar.specs.declared.symbols.Level.TheVariants as levels
+use Rattle.js_grammar.specs.declared.symbols.Symbol.{Symbol}
+use Rattle.js_grammar.specs.declared.symbols.Symbol.TheVariants as symbols
+use Rattle.js_grammar.specs.Classes.{number_of}
+use Rattle.js_grammar.specs.Choice.{begins_within, begins_with, empty_within, may_be_empty, depth}
+use Rattle.js_grammar.specs.Laws.{is_decided_by_order, begun_alternatives}
+
+abbrev pub all_classes : List Class
+all_classes = classes.End ∷ classes.Semicolon ∷ classes.Comma ∷ classes.OpenBrace ∷ classes.CloseBrace ∷ classes.OpenParen ∷ classes.HeadParen ∷ classes.CloseParen ∷ classes.OpenBracket ∷ classes.CloseBracket ∷ classes.Ellipsis ∷ classes.Equals ∷ classes.Compound ∷ classes.Arrow ∷ classes.Colon ∷ classes.Question ∷ classes.Dot ∷ classes.Increment ∷ classes.Decrement ∷ classes.LogicalOr ∷ classes.LogicalAnd ∷ classes.BitwiseOr ∷ classes.BitwiseXor ∷ classes.BitwiseAnd ∷ classes.Equality ∷ classes.Relational ∷ classes.Shift ∷ classes.Sign ∷ classes.Multiplicative ∷ classes.Complement ∷ classes.Identifier ∷ classes.Of ∷ classes.Get ∷ classes.Set ∷ classes.Number ∷ classes.Text ∷ classes.TemplateWhole ∷ classes.TemplateHead ∷ classes.TemplateMiddle ∷ classes.TemplateTail ∷ classes.Instanceof ∷ classes.In ∷ classes.UnaryWord ∷ classes.This ∷ classes.Null ∷ classes.True ∷ classes.False ∷ classes.New ∷ classes.Function ∷ classes.Let ∷ classes.Const ∷ classes.Var ∷ classes.Debugger ∷ classes.If ∷ classes.Else ∷ classes.For ∷ classes.While ∷ classes.Do ∷ classes.Continue ∷ classes.Break ∷ classes.Return ∷ classes.Throw ∷ classes.Switch ∷ classes.Case ∷ classes.Default ∷ classes.Try ∷ classes.Catch ∷ classes.Finally ∷ classes.OtherWord ∷ []
+
+in_place : (c : Class) → get_or all_classes (number_of c) c ≡ c
+in_place classes.End = refl
+in_place _ = refl
+
+below : (c : Class) → number_of c < 69
+below classes.End = lit< tt
+below _ = lit< tt
+
+abbrev same : Bool → Bool → Bool
+same true b = b
+same false b = not b
+
+from_same : (a b : Bool) → same a b ≡ true → a ≡ b
+from_same true b e = sym e
+from_same false false e = refl
+from_same false true e = e
+
+-- a test that holds of each class in the list holds of each class
+pub each_class : (p : Class → Bool) → list_all p all_classes ≡ true → (c : Class) → p c ≡ true
+each_class p e c = elim (p c) as (λ b. p c ≡ b → b ≡ true) [ true ↦ λ h. refl | false ↦ λ h. ap not (sym e ∙ list_all_at p all_classes (number_of c) c (below c) (ap p (in_place c) ∙ h)) ] refl
+
+disjoint_at : (s : Symbol) → list_all (λ c. same (nat_lt 1 (begun_alternatives s c)) (is_decided_by_order s c)) all_classes ≡ true
+disjoint_at symbols.Script = refl
+disjoint_at (symbols.Level levels.LogicalOr m) = refl
+disjoint_at (symbols.Level _ m) = refl
+disjoint_at (symbols.LevelTail levels.Relational modes.WithIn) = refl
+disjoint_at (symbols.LevelTail levels.Relational modes.NoIn) = refl
+disjoint_at (symbols.LevelTail _ _) = refl
+disjoint_at _ = refl
+
+pub disjoint : (s : Symbol) (c : Class) → nat_lt 1 (begun_alternatives s c) ≡ is_decided_by_order s c
+disjoint s c = from_same (nat_lt 1 (begun_alternatives s c)) (is_decided_by_order s c) (each_class (λ c. same (nat_lt 1 (begun_alternatives s c)) (is_decided_by_order s c)) (disjoint_at s) c)

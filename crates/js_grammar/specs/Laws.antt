@@ -1,0 +1,44 @@
+-- What the grammar's rows have to do with each other.
+use Rattle.std.specs.Prelude.{ℕ, Bool, true, false, List, [], ◌∷◌, ◌≡◌, ◌⊎◌, count_by, nat_lt, Option, Some}
+use Rattle.std.specs.List.{Contains}
+use Rattle.js_grammar.specs.declared.class.Class.{Class}
+use Rattle.js_grammar.specs.declared.class.Class.TheVariants as classes
+use Rattle.js_grammar.specs.declared.symbols.Symbol.{Symbol}
+use Rattle.js_grammar.specs.declared.symbols.Symbol.TheVariants as symbols
+use Rattle.js_grammar.specs.declared.symbols.RowId.{RowId}
+use Rattle.js_grammar.specs.Classes.{same_class, is_among, identifiers}
+use Rattle.js_grammar.specs.Choice.{begins_with, row_begins, may_be_empty, list_begins, row_of}
+use Rattle.js_grammar.specs.Derivation.{Leaf, token, Derives}
+use Rattle.js_grammar.specs.Rows.{alternatives}
+
+-- where several alternatives of a symbol begin with a token, and the first of them is taken: a block before an expression
+-- (13.5), the body of an arrow function before an object (14.2), its head before parentheses (12.2), `get`, `set` and
+-- shorthands before other names (12.2.6)
+abbrev pub is_decided_by_order : Symbol → Class → Bool
+is_decided_by_order symbols.Stat c = same_class classes.OpenBrace c
+is_decided_by_order (symbols.Arrow m) c = same_class classes.OpenBrace c
+is_decided_by_order symbols.Primary c = same_class classes.HeadParen c
+is_decided_by_order symbols.Prop c = is_among c identifiers
+is_decided_by_order _ c = false
+
+-- how many alternatives of a symbol begin with a token of the class
+abbrev pub begun_alternatives : Symbol → Class → ℕ
+begun_alternatives s c = count_by (row_begins (begins_with c) c) (alternatives s)
+
+-- no two alternatives of a symbol begin with one token, but where the first of them is taken
+abbrev pub AlternativesAreDisjoint : Type 0
+AlternativesAreDisjoint = (s : Symbol) (c : Class) → nat_lt 1 (begun_alternatives s c) ≡ is_decided_by_order s c
+
+-- the row that a symbol takes is one of its alternatives
+abbrev pub RowsAreAlternatives : Type 0
+RowsAreAlternatives = (s : Symbol) (c : Class) (newline : Bool) (r : RowId)
+    → row_of s c newline ≡ Some r → Contains (alternatives s) r
+
+-- symbols that derive a token and more begin with that token
+abbrev pub FirstTokensAreComplete : Type 0
+FirstTokensAreComplete = (ss : List Symbol) (c : Class) (ls : List Leaf) (rs : List RowId)
+    → Derives ss (token c ∷ ls) rs → list_begins (begins_with c) ss ≡ true
+
+-- a symbol that derives nothing may be empty
+abbrev pub EmptySymbolsAreKnown : Type 0
+EmptySymbolsAreKnown = (s : Symbol) (rs : List RowId) → Derives (s ∷ []) [] rs → may_be_empty s ≡ true
