@@ -1,6 +1,6 @@
 -- What holds of each class and each symbol, found by computing it.
-use Rattle.std.proofs.Common.{ℕ, Bool, true, false, List, [], ◌∷◌, ◌≡◌, ◌<◌, ◌&&◌, not, refl, lit<, get_or, length, nat_lt, sym, ap, ◌∙◌}
-use Rattle.std.specs.List.{list_all}
+use Rattle.std.proofs.Common.{Bool, true, false, List, [], ◌∷◌, ◌≡◌, ◌<◌, ◌||◌, ◌&&◌, not, refl, lit<, get_or, nat_lt, sym, ap, ◌∙◌}
+use Rattle.std.specs.List.{list_any, list_all}
 use Rattle.std.proofs.lemmas.List.Folds.{list_all_at}
 use Rattle.js_grammar.specs.declared.class.Class.{Class}
 use Rattle.js_grammar.specs.declared.class.Class.TheVariants as classes
@@ -9,7 +9,8 @@ use Rattle.js_grammar.specs.declared.symbols.Level.TheVariants as levels
 use Rattle.js_grammar.specs.declared.symbols.Symbol.{Symbol}
 use Rattle.js_grammar.specs.declared.symbols.Symbol.TheVariants as symbols
 use Rattle.js_grammar.specs.Classes.{number_of}
-use Rattle.js_grammar.specs.Choice.{begins_within, begins_with, empty_within, may_be_empty, depth}
+use Rattle.js_grammar.specs.Choice.{begins_with, row_begins, takes_itself, may_be_empty}
+use Rattle.js_grammar.specs.Rows.{alternatives, row_symbols}
 use Rattle.js_grammar.specs.Laws.{is_decided_by_order, begun_alternatives}
 
 abbrev pub all_classes : List Class
@@ -26,6 +27,10 @@ below _ = lit< tt
 abbrev same : Bool → Bool → Bool
 same true b = b
 same false b = not b
+
+same_equal : (a b : Bool) → a ≡ b → same a b ≡ true
+same_equal true b e = sym e
+same_equal false b e = ap not (sym e)
 
 from_same : (a b : Bool) → same a b ≡ true → a ≡ b
 from_same true b e = sym e
@@ -47,3 +52,28 @@ disjoint_at _ = refl
 
 pub disjoint : (s : Symbol) (c : Class) → nat_lt 1 (begun_alternatives s c) ≡ is_decided_by_order s c
 disjoint s c = from_same (nat_lt 1 (begun_alternatives s c)) (is_decided_by_order s c) (each_class (λ c. same (nat_lt 1 (begun_alternatives s c)) (is_decided_by_order s c)) (disjoint_at s) c)
+
+-- a symbol is empty where all symbols of one of its rows are: more rows add nothing
+pub empty_settled : (s : Symbol) → list_any (λ r. list_all may_be_empty (row_symbols r)) (alternatives s) ≡ may_be_empty s
+empty_settled symbols.Script = refl
+empty_settled (symbols.Level levels.LogicalOr m) = refl
+empty_settled (symbols.Level _ m) = refl
+empty_settled _ = refl
+
+all_same : (f g : Class → Bool) → ((c : Class) → f c ≡ g c) → (cs : List Class) → list_all (λ c. same (f c) (g c)) cs ≡ true
+all_same f g e [] = refl
+all_same f g e (c ∷ cs) = ap (λ b. b && list_all (λ c. same (f c) (g c)) cs) (same_equal (f c) (g c) (e c)) ∙ all_same f g e cs
+
+begins_at : (s : Symbol) → list_all (λ c. same (takes_itself c s || list_any (row_begins (begins_with c) c) (alternatives s)) (begins_with c s)) all_classes ≡ true
+begins_at symbols.Script = refl
+begins_at (symbols.Level levels.LogicalOr m) = refl
+begins_at (symbols.Level _ m) = refl
+begins_at (symbols.LevelTail levels.Relational modes.WithIn) = refl
+begins_at (symbols.LevelTail levels.Relational modes.NoIn) = refl
+begins_at (symbols.LevelTail _ _) = refl
+begins_at (symbols.Take t) = all_same (λ c. takes_itself c (symbols.Take t) || list_any (row_begins (begins_with c) c) (alternatives (symbols.Take t))) (λ c. begins_with c (symbols.Take t)) (λ c. refl) all_classes
+begins_at _ = refl
+
+-- a symbol begins with a token that it takes itself, or that one of its rows begins with: more rows add nothing
+pub begins_settled : (s : Symbol) (c : Class) → (takes_itself c s || list_any (row_begins (begins_with c) c) (alternatives s)) ≡ begins_with c s
+begins_settled s c = from_same _ _ (each_class (λ c. same (takes_itself c s || list_any (row_begins (begins_with c) c) (alternatives s)) (begins_with c s)) (begins_at s) c)

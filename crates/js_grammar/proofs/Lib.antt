@@ -1,1 +1,3 @@
+mod Begins
 mod Each
+mod Known

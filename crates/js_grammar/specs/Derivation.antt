@@ -1,5 +1,5 @@
 -- The derivations of the grammar, with no machine and no choice by a token (5.1.2 of ECMA-262).
-use Rattle.std.specs.Prelude.{Bool, true, false, not, List, [], ◌∷◌, ◌++◌, ◌≡◌}
+use Rattle.std.specs.Prelude.{Bool, true, not, List, [], ◌∷◌, ◌++◌, ◌≡◌}
 use Rattle.std.specs.List.{Contains}
 use Rattle.js_grammar.specs.declared.class.Class.{Class}
 use Rattle.js_grammar.specs.declared.class.Class.TheVariants as classes

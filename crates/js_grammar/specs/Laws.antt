@@ -1,15 +1,15 @@
 -- What the grammar's rows have to do with each other.
-use Rattle.std.specs.Prelude.{ℕ, Bool, true, false, List, [], ◌∷◌, ◌≡◌, ◌⊎◌, count_by, nat_lt, Option, Some}
-use Rattle.std.specs.List.{Contains}
+use Rattle.std.specs.Prelude.{ℕ, Bool, true, false, List, [], ◌∷◌, ◌≡◌, ◌||◌, count_by, nat_lt, Some}
+use Rattle.std.specs.List.{Contains, list_any, list_all}
 use Rattle.js_grammar.specs.declared.class.Class.{Class}
 use Rattle.js_grammar.specs.declared.class.Class.TheVariants as classes
 use Rattle.js_grammar.specs.declared.symbols.Symbol.{Symbol}
 use Rattle.js_grammar.specs.declared.symbols.Symbol.TheVariants as symbols
 use Rattle.js_grammar.specs.declared.symbols.RowId.{RowId}
 use Rattle.js_grammar.specs.Classes.{same_class, is_among, identifiers}
-use Rattle.js_grammar.specs.Choice.{begins_with, row_begins, may_be_empty, list_begins, row_of}
+use Rattle.js_grammar.specs.Choice.{begins_with, row_begins, takes_itself, may_be_empty, list_begins, row_of}
 use Rattle.js_grammar.specs.Derivation.{Leaf, token, Derives}
-use Rattle.js_grammar.specs.Rows.{alternatives}
+use Rattle.js_grammar.specs.Rows.{alternatives, row_symbols}
 
 -- where several alternatives of a symbol begin with a token, and the first of them is taken: a block before an expression
 -- (13.5), the body of an arrow function before an object (14.2), its head before parentheses (12.2), `get`, `set` and
@@ -34,11 +34,21 @@ abbrev pub RowsAreAlternatives : Type 0
 RowsAreAlternatives = (s : Symbol) (c : Class) (newline : Bool) (r : RowId)
     → row_of s c newline ≡ Some r → Contains (alternatives s) r
 
--- symbols that derive a token and more begin with that token
-abbrev pub FirstTokensAreComplete : Type 0
-FirstTokensAreComplete = (ss : List Symbol) (c : Class) (ls : List Leaf) (rs : List RowId)
+-- a symbol begins with a token just where it takes the token itself or one of its alternatives begins with it, however
+-- many rows lie between
+abbrev pub FirstsAreSettled : Type 0
+FirstsAreSettled = (s : Symbol) (c : Class)
+    → begins_with c s ≡ (takes_itself c s || list_any (row_begins (begins_with c) c) (alternatives s))
+
+-- a symbol may be empty just where all symbols of one of its alternatives may
+abbrev pub EmptinessIsSettled : Type 0
+EmptinessIsSettled = (s : Symbol) → may_be_empty s ≡ list_any (λ r. list_all may_be_empty (row_symbols r)) (alternatives s)
+
+-- symbols that derive leaves of which a token is the first begin with that token
+abbrev pub FirstTokensAreKnown : Type 0
+FirstTokensAreKnown = (ss : List Symbol) (c : Class) (ls : List Leaf) (rs : List RowId)
     → Derives ss (token c ∷ ls) rs → list_begins (begins_with c) ss ≡ true
 
--- a symbol that derives nothing may be empty
+-- symbols that derive nothing may be empty
 abbrev pub EmptySymbolsAreKnown : Type 0
-EmptySymbolsAreKnown = (s : Symbol) (rs : List RowId) → Derives (s ∷ []) [] rs → may_be_empty s ≡ true
+EmptySymbolsAreKnown = (ss : List Symbol) (rs : List RowId) → Derives ss [] rs → list_all may_be_empty ss ≡ true
