@@ -19,3 +19,8 @@ pub use row_symbols::symbols_of;
 pub use rows::row;
 pub use symbols::{Level, Mode, RowId, Symbol, Terminal};
 pub use terminals::takes;
+
+#[cfg(test)]
+mod notation;
+#[cfg(test)]
+mod tests;
