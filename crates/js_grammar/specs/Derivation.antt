@@ -1,4 +1,4 @@
--- The derivations of the grammar, with no machine and no choice by a token (5.1.2 of ECMA-262).
+-- The derivations of the grammar, with no machine and no choice by a token (5.1.1 and 5.1.4 of ECMA-262).
 use Rattle.std.specs.Prelude.{Bool, true, not, List, [], ◌∷◌, ◌++◌, ◌≡◌}
 use Rattle.std.specs.List.{Contains}
 use Rattle.js_grammar.specs.declared.class.Class.{Class}
