@@ -1,3 +1,4 @@
-mod Begins
-mod Each
-mod Known
+pub mod Begins
+pub mod Each
+pub mod Forced
+pub mod Known

@@ -1,5 +1,5 @@
 // What holds of the definitions alone.
-ghost use Rattle.js_grammar.specs.Laws.{AlternativesAreDisjoint, EmptinessIsSettled, EmptySymbolsAreKnown, FirstTokensAreKnown, FirstsAreSettled, RowsAreAlternatives};
+ghost use Rattle.js_grammar.specs.Laws.{AlternativesAreDisjoint, BegunRowsAreTaken, EmptinessIsSettled, EmptySymbolsAreKnown, FirstTokensAreKnown, FirstsAreSettled, LeftOutRowsAreNotTaken, RowsAreAlternatives};
 
 /// No two alternatives of a symbol begin with one token, but where the definition lists that the first of them is taken.
 /// It does nothing: its clause is the law.
@@ -7,9 +7,17 @@ pub fn alternatives_are_disjoint()
     ensures { AlternativesAreDisjoint }
 {}
 
-/// The row that a symbol takes at a token is one of its alternatives. It does nothing: its clause is the law.
+/// The row that a symbol takes at a token is one of its alternatives, and no expression statement begins with `function`.
+/// It does nothing: its clauses are the law.
 pub fn rows_are_alternatives()
-    ensures { RowsAreAlternatives }
+    ensures among { RowsAreAlternatives }
+    ensures left_out { LeftOutRowsAreNotTaken }
+{}
+
+/// An alternative that begins with the token is the row that its symbol takes, but where the first of several is taken and
+/// where a newline stands against it. It does nothing: its clause is the law.
+pub fn begun_rows_are_taken()
+    ensures { BegunRowsAreTaken }
 {}
 
 /// What begins with a token, and what may be empty, is found by the rows, however many of them lie between. It does

@@ -12,7 +12,8 @@ mod terminals;
 
 pub use class::{Class, class_of};
 pub use laws::{
-    alternatives_are_disjoint, first_tokens_are_known, firsts_are_settled, rows_are_alternatives,
+    alternatives_are_disjoint, begun_rows_are_taken, first_tokens_are_known, firsts_are_settled,
+    rows_are_alternatives,
 };
 pub use marks::marked;
 pub use row_symbols::symbols_of;
