@@ -1,6 +1,15 @@
 //! Cuts a text of JavaScript into tokens (ECMA-262, 6th edition, section 11).
 #![tactic(auto)]
 
+mod classes;
+mod cursor;
+mod escapes;
 mod kinds;
+mod marks;
+mod numbers;
+mod scan;
+mod strings;
+mod words;
 
 pub use kinds::{Mark, Piece, Token, TokenFault, TokenKind, Word};
+pub use words::is_reserved;

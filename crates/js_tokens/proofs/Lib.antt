@@ -1,0 +1,4 @@
+pub mod Cursors
+pub mod Digits
+pub mod MarkTrees
+pub mod Turns

@@ -1,0 +1,9 @@
+pub mod Place
+pub mod Classes
+pub mod Words
+pub mod Marks
+pub mod MarkTree
+pub mod Numbers
+pub mod Escapes
+pub mod Strings
+pub mod Scan
