@@ -7,3 +7,6 @@ pub mod Numbers
 pub mod Escapes
 pub mod Strings
 pub mod Scan
+pub mod Braces
+pub mod Span
+pub mod Cut

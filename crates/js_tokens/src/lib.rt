@@ -1,6 +1,7 @@
 //! Cuts a text of JavaScript into tokens (ECMA-262, 6th edition, section 11).
 #![tactic(auto)]
 
+mod braces;
 mod classes;
 mod cursor;
 mod escapes;
@@ -9,6 +10,7 @@ mod marks;
 mod numbers;
 mod scan;
 mod strings;
+mod tokens;
 mod words;
 
 pub use kinds::{Mark, Piece, Token, TokenFault, TokenKind, Word};
