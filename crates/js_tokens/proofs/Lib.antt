@@ -5,3 +5,4 @@ pub mod Turns
 pub mod Passing
 pub mod Spans
 pub mod Cuts
+pub mod HeadMarks

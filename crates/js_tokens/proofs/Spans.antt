@@ -59,10 +59,10 @@ front_is : (p : ℕ → Bool) (cs : List ℕ) (at : ℕ) → (cs ≡ front p cs 
 front_is p [] at = (refl, omega arith)
 front_is p (c ∷ cs) at =
     elim (p c) as (λ b. (c ∷ cs ≡ (if b then c ∷ front p cs else []) ++ (if b then past_from p cs (at + len_utf8 c) else record { chars = c ∷ cs; at = at }).chars) × ((if b then past_from p cs (at + len_utf8 c) else record { chars = c ∷ cs; at = at }).at ≡ at + length (encode_utf8_all (if b then c ∷ front p cs else [])))) [
-      true ↦
-        let k = front_is p cs (at + len_utf8 c) in
-        (ap (λ l. c ∷ l) k.0, omega (arith, k.1, length-append (encode_utf8 c) (encode_utf8_all (front p cs)), length-encode c))
-    | false ↦ (refl, omega arith)
+      | true ↦
+          let k = front_is p cs (at + len_utf8 c) in
+          (ap (λ l. c ∷ l) k.0, omega (arith, k.1, length-append (encode_utf8 c) (encode_utf8_all (front p cs)), length-encode c))
+      | false ↦ (refl, omega arith)
     ]
 
 -- no name is found among the other tokens

@@ -10,3 +10,5 @@ pub mod Scan
 pub mod Braces
 pub mod Span
 pub mod Cut
+pub mod Heads
+pub mod Tokens

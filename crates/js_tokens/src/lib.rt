@@ -5,13 +5,15 @@ mod braces;
 mod classes;
 mod cursor;
 mod escapes;
+mod heads;
 mod kinds;
 mod marks;
 mod numbers;
 mod scan;
 mod strings;
-mod tokens;
+mod token_list;
 mod words;
 
 pub use kinds::{Mark, Piece, Token, TokenFault, TokenKind, Word};
+pub use token_list::tokens;
 pub use words::is_reserved;

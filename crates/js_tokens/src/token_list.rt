@@ -1,10 +1,12 @@
 //! The tokens of a whole text.
 
 ghost use Rattle.std.specs.Prelude.{◌≡◌, ◌^◌, ◌≤◌, ◌++◌, ◌∷◌, [], length, IfOk, IfErr, OnOk};
+ghost use Rattle.js_tokens.specs.Tokens.{AreTokens};
 ghost use Rattle.js_tokens.specs.Cut.{CutOf, FirstFault, IfFault, token};
 
 use crate::braces::Braces;
 use crate::cursor::Cursor;
+use crate::heads::mark_heads;
 use crate::kinds::{Token, TokenFault, TokenKind};
 use crate::scan::{Item, scan};
 use crate::words::kind_of_name;
@@ -20,6 +22,20 @@ impl From<Memory> for TokenFault {
     fn from(_: Memory) -> Self {
         TokenFault::Memory
     }
+}
+
+/// The tokens of a text in their order, `End` last, or the first fault.
+///
+/// A token is the longest that begins at its place, and between two tokens stand white space, line terminators and
+/// comments. Each fault but `Memory` stands where the text has it.
+pub fn tokens(alloc: Global, text: &str) -> Result<Vec<Token>, TokenFault>
+    requires { length text.now ≤ 2 ^ 31 }
+    ensures tokens { IfOk result (λ tokens. AreTokens text.now tokens.items) }
+    ensures fault { IfErr result (λ e. IfFault e (FirstFault text.now)) }
+{
+    let mut tokens = cut(alloc, text)?;
+    mark_heads(alloc, &mut tokens)?;
+    Ok(tokens)
 }
 
 // The tokens of a text, of which none is marked as a head.

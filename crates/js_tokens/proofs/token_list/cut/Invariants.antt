@@ -4,7 +4,7 @@ use Rattle.js_tokens.specs.Cut.{Cut, CutFails, CutOf, FirstFault}
 use Rattle.js_tokens.specs.Span.{Stands}
 use Rattle.js_tokens.specs.declared.kinds.TokenFault.{TokenFault}
 use Rattle.js_tokens.specs.declared.kinds.Token.{Token}
-use Rattle.js_tokens.proofs.tokens.cut.Given as goal
+use Rattle.js_tokens.proofs.token_list.cut.Given as goal
 
 -- whatever the rest is cut into completes the tokens so far, and what stands from here on is the rest of the text
 abbrev pub invariant-loop-item : goal.invariant-loop-item

@@ -5,8 +5,8 @@ use Rattle.js_tokens.specs.Scan.{scan_at}
 use Rattle.js_tokens.specs.Words.{kind_of_name}
 use Rattle.js_tokens.proofs.Spans.{scan_bounds, scan_stands, boundary, name_text}
 use Rattle.js_tokens.proofs.Cuts.{unless, more_gap, more_name, more_other, last_token, fails_gap, fails_name, fails_other}
-use Rattle.js_tokens.proofs.tokens.cut.Goals as goal
-use Rattle.js_tokens.proofs.tokens.cut.Goals.{then-newline_before, else-newline_before}
+use Rattle.js_tokens.proofs.token_list.cut.Goals as goal
+use Rattle.js_tokens.proofs.token_list.cut.Goals.{then-newline_before, else-newline_before}
 
 pub returns-in-Err-clause-fault : goal.returns-in-Err-clause-fault
 returns-in-Err-clause-fault c =
@@ -16,8 +16,8 @@ returns-in-Err-clause-fault c =
 later_is : (c : goal.Joined-newline_before) → c.if-newline_before.newline_before ≡ c.loop-item.newline_before || c.in-Gap.newline
 later_is c =
     elim c.if-newline_before.branch [
-      then-newline_before w ↦ w.newline_before-is ∙ w.if-newline_before.true ∙ sym (ap (λ b. b || c.in-Gap.newline) w.if-newline_before.true)
-    | else-newline_before w ↦ w.newline_before-is ∙ sym (ap (λ b. b || c.in-Gap.newline) w.if-newline_before.false)
+      | then-newline_before w ↦ w.newline_before-is ∙ w.if-newline_before.true ∙ sym (ap (λ b. b || c.in-Gap.newline) w.if-newline_before.true)
+      | else-newline_before w ↦ w.newline_before-is ∙ sym (ap (λ b. b || c.in-Gap.newline) w.if-newline_before.false)
     ]
 
 pub loop-item-preserved-in-Gap : goal.loop-item-preserved-in-Gap
@@ -41,8 +41,8 @@ range-requires-clause-end_boundary c = subst (λ n. IsCharBoundary c.args.text.n
 pub loop-item-preserved-in-Name : goal.loop-item-preserved-in-Name
 loop-item-preserved-in-Name c = record {
   cut = more_name (CutOf c.args.text.now) (FirstFault c.args.text.now) c.loop-item.tokens.items c.loop-item.braces c.inside.result c.loop-item.cursor.chars c.loop-item.cursor.at c.loop-item.newline_before c.scan.new.cursor c.in-Ok.item c.loop-item.invariant.cut c.loop-item.invariant.fails c.inside.ensures c.in-Ok.ensures.value c.kind_of_name-kind.result c.at-from.result c.at-to.result c.push.new.tokens.items c.in-Name.is
-    (c.kind_of_name-kind.ensures ∙ ap kind_of_name (c.range.ensures.value ∙ ap (λ n. slice_range c.args.text.now n c.at-to.result) c.at-from.ensures ∙ ap (λ n. slice_range c.args.text.now c.loop-item.cursor.at n) c.at-to.ensures ∙ name_text c.args.text.now c.loop-item.cursor.chars c.loop-item.cursor.at c.inside.result c.scan.new.cursor c.loop-item.invariant.stands (c.in-Ok.ensures.value ∙ ap (λ i. Ok (i, c.scan.new.cursor)) c.in-Name.is)))
-    c.at-from.ensures c.at-to.ensures c.in_ok-push-in-Name.ensures;
+      (c.kind_of_name-kind.ensures ∙ ap kind_of_name (c.range.ensures.value ∙ ap (λ n. slice_range c.args.text.now n c.at-to.result) c.at-from.ensures ∙ ap (λ n. slice_range c.args.text.now c.loop-item.cursor.at n) c.at-to.ensures ∙ name_text c.args.text.now c.loop-item.cursor.chars c.loop-item.cursor.at c.inside.result c.scan.new.cursor c.loop-item.invariant.stands (c.in-Ok.ensures.value ∙ ap (λ i. Ok (i, c.scan.new.cursor)) c.in-Name.is)))
+      c.at-from.ensures c.at-to.ensures c.in_ok-push-in-Name.ensures;
   fails = fails_name (CutOf c.args.text.now) (FirstFault c.args.text.now) c.loop-item.tokens.items c.loop-item.braces c.inside.result c.loop-item.cursor.chars c.loop-item.cursor.at c.loop-item.newline_before c.scan.new.cursor c.in-Ok.item c.loop-item.invariant.cut c.loop-item.invariant.fails c.inside.ensures c.in-Ok.ensures.value c.in-Name.is;
   stands = scan_stands c.args.text.now c.loop-item.cursor.chars c.loop-item.cursor.at c.inside.result c.in-Ok.item c.scan.new.cursor c.loop-item.invariant.stands c.in-Ok.ensures.value;
 }
