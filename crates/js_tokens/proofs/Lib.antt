@@ -6,3 +6,4 @@ pub mod Passing
 pub mod Spans
 pub mod Cuts
 pub mod HeadMarks
+pub mod Raw

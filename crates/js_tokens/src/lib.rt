@@ -10,10 +10,14 @@ mod kinds;
 mod marks;
 mod numbers;
 mod scan;
+mod spelled;
 mod strings;
 mod token_list;
+mod values;
 mod words;
 
 pub use kinds::{Mark, Piece, Token, TokenFault, TokenKind, Word};
+pub use spelled::{directive_quote, template_spelled};
 pub use token_list::tokens;
-pub use words::is_reserved;
+pub use values::{raw_text, string_value};
+pub use words::{is_identifier_name, is_reserved};
