@@ -7,3 +7,4 @@ pub mod Spans
 pub mod Cuts
 pub mod HeadMarks
 pub mod Raw
+pub mod Whole
