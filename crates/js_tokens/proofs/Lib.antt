@@ -8,3 +8,5 @@ pub mod Cuts
 pub mod HeadMarks
 pub mod Raw
 pub mod Whole
+pub mod OneCut
+pub mod Longest

@@ -95,13 +95,13 @@ abbrev item_of : Result (Item × Place) TokenFault → Item
 item_of (Ok x) = x.0
 item_of (Err e) = items.Over
 
-abbrev is_over : Item → Bool
+abbrev pub is_over : Item → Bool
 is_over items.Over = true
 is_over (items.Gap b) = false
 is_over items.Name = false
 is_over (items.Token k) = false
 
-scan-some : (inside : Bool) (cs : List ℕ) (at : ℕ) (item : Item) (p : Place) → scan_at inside cs at ≡ Ok (item, p) → is_over item ≡ false → (at < p.at) × (length p.chars < length cs)
+pub scan-some : (inside : Bool) (cs : List ℕ) (at : ℕ) (item : Item) (p : Place) → scan_at inside cs at ≡ Ok (item, p) → is_over item ≡ false → (at < p.at) × (length p.chars < length cs)
 scan-some inside [] at item p e h = absurd (let k : true ≡ is_over item = ap (λ r. is_over (item_of r)) e in cc)
 scan-some inside (c ∷ cs) at item p e h =
     let m : Passes cs (at + len_utf8 c) p.chars p.at = (subst (λ r. Moves cs (at + len_utf8 c) r) e (scan-moves inside c cs at)).moved in
