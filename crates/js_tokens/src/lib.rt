@@ -13,6 +13,8 @@ mod numbers;
 mod scan;
 mod spelled;
 mod strings;
+#[cfg(test)]
+mod tests;
 mod token_list;
 mod values;
 mod words;
