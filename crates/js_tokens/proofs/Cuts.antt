@@ -1,11 +1,10 @@
 -- One more gap or token in the cut of a text.
-use Rattle.std.proofs.Common.{◌≡◌, ℕ, ◌+◌, Bool, true, false, List, [], ◌∷◌, ◌++◌, Ok, Err, sym, ap, ◌∙◌, subst, append_assoc, append-nil}
-use Rattle.std.specs.Prelude.{◌||◌, encode_utf8_all}
+use Rattle.std.proofs.Common.{◌≡◌, ℕ, Bool, false, List, [], ◌∷◌, ◌++◌, Ok, sym, ap, ◌∙◌, subst, append_assoc, append-nil}
+use Rattle.std.specs.Prelude.{◌||◌}
 use Rattle.js_tokens.specs.Place.{Place}
 use Rattle.js_tokens.specs.Scan.{scan_at}
 use Rattle.js_tokens.specs.Braces.{is_inside, opened}
-use Rattle.js_tokens.specs.Cut.{Cut, over, gap, name, other, token, name_kind, name_at, CutFails, here, past_gap, past_name, past_other, UnlessMemory, IfFault}
-use Rattle.js_tokens.specs.Words.{kind_of_name}
+use Rattle.js_tokens.specs.Cut.{Cut, over, gap, name, other, token, name_kind, CutFails, past_gap, past_name, past_other, UnlessMemory}
 use Rattle.js_tokens.specs.declared.braces.Brace.{Brace}
 use Rattle.js_tokens.specs.declared.kinds.Token.{Token}
 use Rattle.js_tokens.specs.declared.kinds.TokenKind.{TokenKind}

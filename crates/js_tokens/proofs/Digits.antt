@@ -1,10 +1,9 @@
 -- A value that is capped at each digit is the value, where that is below the cap.
-use Rattle.std.proofs.Common.{◌≡◌, ℕ, suc, ◌+◌, ◌*◌, ◌^◌, ◌<◌, ◌≤◌, ◌⊎◌, inl, inr, Bool, true, false, List, [], ◌∷◌, Option, Some, None, refl, sym, ap, ◌∙◌, arith, if◌then◌else◌}
+use Rattle.std.proofs.Common.{◌≡◌, ℕ, suc, ◌+◌, ◌*◌, ◌^◌, ◌<◌, ◌≤◌, ◌⊎◌, inl, inr, Bool, true, false, List, [], ◌∷◌, Some, None, refl, sym, ap, ◌∙◌, arith, if◌then◌else◌}
 use Rattle.std.specs.Prelude.{nat_lt}
 use Rattle.std.specs.Char.{len_utf8, digit_value}
 use Rattle.std.proofs.lemmas.Bool.Decides.{leb_tells}
 use Rattle.std.proofs.lemmas.Nat.{mul-le}
-use Rattle.js_tokens.specs.Place.{Place}
 use Rattle.js_tokens.specs.Numbers.{capped, small, small_at, digits_from, is_digit_of}
 
 tells : (n : ℕ) → ((nat_lt n (2 ^ 53) ≡ true) × (n < 2 ^ 53)) ⊎ ((nat_lt n (2 ^ 53) ≡ false) × (2 ^ 53 ≤ n))

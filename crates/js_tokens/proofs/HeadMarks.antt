@@ -1,10 +1,10 @@
 -- Heads are marked from the last token on.
-use Rattle.std.proofs.Common.{◌≡◌, ℕ, zero, suc, ◌+◌, ◌<◌, ◌≤◌, Bool, true, false, List, [], ◌∷◌, ◌++◌, length, take, drop, get_or, refl, sym, ap, ◌∙◌, subst, arith, append_assoc, add-one}
-use Rattle.std.specs.Prelude.{not, ◌&&◌}
+use Rattle.std.proofs.Common.{◌≡◌, ℕ, zero, suc, ◌<◌, ◌≤◌, Bool, false, List, [], ◌∷◌, ◌++◌, length, take, drop, get_or, refl, sym, ap, ◌∙◌, arith, append_assoc}
+use Rattle.std.specs.Prelude.{◌&&◌}
 use Rattle.std.proofs.Math.ListN.{set}
 use Rattle.std.proofs.Math.Seq.{take-suc, drop-cons}
 use Rattle.std.proofs.lemmas.List.{length-take-le}
-use Rattle.js_tokens.specs.Heads.{with_heads, is_head, arrow_behind, arrow_next, at_role, role_of, head_of, closers_after, is_opening, is_arrow, but_last_met}
+use Rattle.js_tokens.specs.Heads.{with_heads, is_head, arrow_behind, arrow_next, at_role, role_of, head_of, closers_after, is_opening, but_last_met}
 use Rattle.js_tokens.specs.declared.heads.Role.{Role}
 use Rattle.js_tokens.specs.declared.heads.Role.TheVariants.{Opens, Closes, Arrow, Other}
 use Rattle.js_tokens.specs.declared.kinds.Token.{Token}

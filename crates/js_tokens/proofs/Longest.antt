@@ -1,5 +1,5 @@
 -- Where names, punctuators and numbers end.
-use Rattle.std.proofs.Common.{◌≡◌, ℕ, zero, suc, ◌+◌, ◌<◌, ◌≤◌, ◌^◌, Bool, true, false, List, [], ◌∷◌, length, take, Option, Some, None, Result, Ok, Err, ◌⊎◌, inl, inr, refl, sym, ap, ◌∙◌, subst, arith, if◌then◌else◌}
+use Rattle.std.proofs.Common.{◌≡◌, ℕ, zero, suc, ◌<◌, ◌≤◌, ◌^◌, Bool, true, false, List, [], ◌∷◌, length, take, Option, Some, None, Result, Ok, Err, inl, inr, refl, sym, ap, ◌∙◌, subst, arith, if◌then◌else◌}
 use Rattle.std.specs.Prelude.{nat_le, nat_lt, ◌&&◌, ◌==◌}
 use Rattle.std.specs.List.{All}
 use Rattle.std.proofs.lemmas.List.Elements.{All-cons}
@@ -7,7 +7,7 @@ use Rattle.std.proofs.lemmas.Bool.Decides.{leb_tells}
 use Rattle.js_tokens.specs.Place.{Place, front, behind_first}
 use Rattle.js_tokens.specs.Classes.{is_start, is_part, ends_number}
 use Rattle.js_tokens.specs.Words.{each, is_name}
-use Rattle.js_tokens.specs.Numbers.{number_at, number_from, number_to, value_to, behind_zero, some_digits, digits_at, digits_from, small, small_at, digit_of, base_at}
+use Rattle.js_tokens.specs.Numbers.{number_at, number_from, number_to, value_to, behind_zero, digits_at, digits_from, small, digit_of, base_at}
 use Rattle.js_tokens.specs.Marks.{punctuators, mark_among, begins_with}
 use Rattle.js_tokens.specs.Cut.{name_at}
 use Rattle.js_tokens.specs.declared.kinds.Mark.{Mark}

@@ -1,25 +1,20 @@
 -- A text has one cut or one first fault.
-use Rattle.std.proofs.Common.{◌≡◌, ℕ, zero, suc, ◌+◌, ◌<◌, ◌≤◌, Bool, true, false, List, [], ◌∷◌, length, Option, Some, None, Result, Ok, Err, ◌⊎◌, inl, inr, refl, sym, ap, ◌∙◌, subst, arith}
+use Rattle.std.proofs.Common.{◌≡◌, ℕ, zero, suc, ◌<◌, ◌≤◌, Bool, false, List, [], ◌∷◌, length, Result, Ok, Err, ◌⊎◌, inl, inr, refl, sym, ap, ◌∙◌, subst, arith}
 use Rattle.std.specs.Prelude.{◌||◌}
-use Rattle.std.specs.Str.{chars}
 use Rattle.js_tokens.specs.Place.{Place}
 use Rattle.js_tokens.specs.Scan.{scan_at}
 use Rattle.js_tokens.specs.Braces.{is_inside, opened}
-use Rattle.js_tokens.specs.Cut.{Cut, over, gap, name, other, CutFails, here, past_gap, past_name, past_other, CutOf, FirstFault, token, name_kind}
-use Rattle.js_tokens.specs.Heads.{with_heads, is_head}
-use Rattle.js_tokens.specs.Span.{Passes, none}
-use Rattle.js_tokens.specs.Tokens.{AreTokens}
+use Rattle.js_tokens.specs.Cut.{Cut, over, gap, name, other, CutFails, here, past_gap, past_name, past_other, token, name_kind}
+use Rattle.js_tokens.specs.Heads.{with_heads}
 use Rattle.js_tokens.specs.Laws.{Tiles}
 use Rattle.js_tokens.specs.Laws as laws
 use Rattle.js_tokens.specs.declared.braces.Brace.{Brace}
 use Rattle.js_tokens.specs.declared.kinds.Token.{Token}
-use Rattle.js_tokens.specs.declared.kinds.TokenKind.{TokenKind}
 use Rattle.js_tokens.specs.declared.kinds.TokenKind.TheVariants as kinds
 use Rattle.js_tokens.specs.declared.kinds.TokenFault.{TokenFault}
 use Rattle.js_tokens.specs.declared.scan.Item.{Item}
 use Rattle.js_tokens.specs.declared.scan.Item.TheVariants as items
-use Rattle.js_tokens.proofs.Passing.{scan-moves, Moves}
-use Rattle.js_tokens.proofs.Whole.{scan-some, is_over}
+use Rattle.js_tokens.proofs.Whole.{scan-some}
 use Rattle.js_tokens.proofs.Spans.{scan_passes, over_none}
 
 abbrev Scanned : Type 0

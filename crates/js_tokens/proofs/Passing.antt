@@ -1,10 +1,10 @@
 -- What stands at a place is passed character by character.
-use Rattle.std.proofs.Common.{◌≡◌, ℕ, zero, suc, pred, ◌+◌, ◌*◌, ◌==◌, ◌&&◌, ◌||◌, Bool, true, false, List, [], ◌∷◌, length, Option, Some, None, Result, Ok, Err, refl, sym, ap, ◌∙◌, subst, if◌then◌else◌}
+use Rattle.std.proofs.Common.{ℕ, zero, suc, pred, ◌+◌, ◌*◌, ◌==◌, ◌&&◌, ◌||◌, Bool, true, false, List, [], ◌∷◌, length, Option, Some, None, Result, Ok, Err, if◌then◌else◌}
 use Rattle.std.specs.Char.{len_utf8, digit_value}
 use Rattle.js_tokens.specs.Span.{Passes, none, more}
 use Rattle.js_tokens.specs.Place.{Place, past_from, behind_first, eaten_from, eaten, behind, past, first_is, ◌>>=◌}
 use Rattle.js_tokens.specs.Numbers.{digits_from, digits_at, number_to, value_to, some_digits, behind_zero, number_from, number_at, is_digit_of, digit_of}
-use Rattle.js_tokens.specs.Escapes.{hex_digit_from, hex_digit, two_digits, four_digits, closed, code_point_to, code_point_from, code_point, unicode_from, unicode, other_at, single, single_or, escape_from, unit}
+use Rattle.js_tokens.specs.Escapes.{hex_digit_from, two_digits, four_digits, closed, code_point_to, code_point_from, code_point, unicode_from, unicode, other_at, single, single_or, escape_from, unit}
 use Rattle.js_tokens.specs.declared.kinds.TokenFault.{TokenFault}
 use Rattle.js_tokens.specs.declared.escapes.Escaped.{Escaped}
 use Rattle.js_tokens.specs.declared.escapes.Escaped.TheVariants as escapes

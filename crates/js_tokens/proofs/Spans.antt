@@ -1,5 +1,5 @@
 -- Where the parts of a text stand in its bytes.
-use Rattle.std.proofs.Common.{◌≡◌, ℕ, ◌+◌, ◌-◌, ◌<◌, ◌≤◌, Bool, true, false, List, [], ◌∷◌, ◌++◌, length, take, drop, Result, Ok, Err, Option, Some, None, refl, sym, ap, ◌∙◌, subst, arith, if◌then◌else◌, add_assoc}
+use Rattle.std.proofs.Common.{◌≡◌, ℕ, ◌+◌, ◌-◌, ◌≤◌, Bool, true, false, List, [], ◌∷◌, ◌++◌, length, take, drop, Result, Ok, Err, Option, Some, None, refl, sym, ap, ◌∙◌, subst, arith, if◌then◌else◌}
 use Rattle.std.specs.Prelude.{encode_utf8, encode_utf8_all, IsUtf8, IsCharBoundary, slice_range, ◌==◌, ◌||◌, ◌&&◌}
 use Rattle.std.specs.Str.{chars}
 use Rattle.std.specs.Char.{len_utf8}
@@ -8,11 +8,11 @@ use Rattle.std.proofs.Math.Seq.{take-append_seam}
 use Rattle.std.proofs.lemmas.Str.{encodes-chars, encodes-append, length-encode, drop_past_char, IsUtf8-past_char, IsCharBoundary-past_char, IsCharBoundary-from_drop, chars_past_char, len_utf8_bounds}
 use Rattle.js_tokens.specs.Span.{Passes, none, more, Stands}
 use Rattle.js_tokens.specs.Place.{Place, past_from, past, front, behind, behind_first, first_is, ◌>>=◌}
-use Rattle.js_tokens.specs.Classes.{is_space, is_newline, is_start, is_part, is_in_line}
+use Rattle.js_tokens.specs.Classes.{is_space, is_newline, is_start, is_part}
 use Rattle.js_tokens.specs.Numbers.{number_at}
 use Rattle.js_tokens.specs.Strings.{string_at, template_at, closing}
 use Rattle.js_tokens.specs.Marks.{mark_at}
-use Rattle.js_tokens.specs.Scan.{scan_at, token_at, other_at, begins_number, begins_piece, found, piece, comment_at, comment_from, comment_to, mark_to}
+use Rattle.js_tokens.specs.Scan.{scan_at, token_at, begins_number, begins_piece, found, piece, comment_from, comment_to, mark_to}
 use Rattle.js_tokens.specs.Cut.{name_at}
 use Rattle.js_tokens.specs.declared.kinds.Mark.{Mark}
 use Rattle.js_tokens.specs.declared.kinds.TokenKind.{TokenKind}

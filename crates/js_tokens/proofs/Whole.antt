@@ -1,23 +1,23 @@
 -- What holds of each token of a text, and of all of them.
-use Rattle.std.proofs.Common.{◌≡◌, ℕ, ◌+◌, ◌<◌, ◌≤◌, ◌^◌, Bool, true, false, List, [], ◌∷◌, length, drop, Option, Some, None, Result, Ok, Err, is_ok, refl, sym, ap, ◌∙◌, subst, arith, if◌then◌else◌}
+use Rattle.std.proofs.Common.{◌≡◌, ℕ, ◌+◌, ◌<◌, ◌≤◌, ◌^◌, Bool, true, false, List, [], ◌∷◌, length, Option, Some, None, Result, Ok, Err, is_ok, refl, sym, ap, ◌∙◌, subst, arith, if◌then◌else◌}
 use Rattle.std.specs.Prelude.{◌==◌, ◌&&◌, ◌||◌, IsUtf8, suc, encode_utf8_all}
 use Rattle.std.specs.Str.{chars}
 use Rattle.std.specs.List.{All}
 use Rattle.std.specs.Char.{len_utf8}
 use Rattle.std.proofs.lemmas.List.Elements.{All-cons}
 use Rattle.std.proofs.lemmas.Str.{length-le-encodes, encodes-chars, len_utf8_bounds}
-use Rattle.js_tokens.specs.Place.{Place, behind, behind_first, first_is, past, ◌>>=◌}
-use Rattle.js_tokens.specs.Classes.{is_space, is_newline, is_start, is_part, is_in_line}
+use Rattle.js_tokens.specs.Place.{Place, behind, behind_first, first_is, ◌>>=◌}
+use Rattle.js_tokens.specs.Classes.{is_space, is_newline, is_start}
 use Rattle.js_tokens.specs.Numbers.{number_at}
 use Rattle.js_tokens.specs.Strings.{string_at, template_at, closing}
 use Rattle.js_tokens.specs.Marks.{mark_at}
 use Rattle.js_tokens.specs.Scan.{scan_at, token_at, begins_number, begins_piece, found, piece, comment_from, comment_to, mark_to}
-use Rattle.js_tokens.specs.Words.{word_named, kind_of_word, kind_of_name}
-use Rattle.js_tokens.specs.Braces.{is_inside, opened}
+use Rattle.js_tokens.specs.Words.{word_named, kind_of_word}
+use Rattle.js_tokens.specs.Braces.{is_inside}
 use Rattle.js_tokens.specs.Cut.{Cut, over, gap, name, other, CutOf, name_kind, name_at, token}
 use Rattle.js_tokens.specs.Heads.{with_heads, is_head}
 use Rattle.js_tokens.specs.Span.{Stands, Passes}
-use Rattle.js_tokens.specs.Tokens.{AreTokens, AreEnded, IsWithin, is_end}
+use Rattle.js_tokens.specs.Tokens.{AreEnded, is_end}
 use Rattle.js_tokens.specs.Values.{IsTokenOf, is_text, string_from}
 use Rattle.js_tokens.specs.declared.braces.Brace.{Brace}
 use Rattle.js_tokens.specs.declared.kinds.Mark.{Mark}
@@ -26,7 +26,6 @@ use Rattle.js_tokens.specs.declared.kinds.Token.{Token}
 use Rattle.js_tokens.specs.declared.kinds.TokenKind.{TokenKind}
 use Rattle.js_tokens.specs.declared.kinds.TokenKind.TheVariants as kinds
 use Rattle.js_tokens.specs.declared.kinds.TokenFault.{TokenFault}
-use Rattle.js_tokens.specs.declared.kinds.TokenFault.TheVariants as faults
 use Rattle.js_tokens.specs.declared.scan.Item.{Item}
 use Rattle.js_tokens.specs.declared.scan.Item.TheVariants as items
 use Rattle.js_tokens.proofs.Spans.{scan_bounds, scan_stands, boundary, bounds, shorter}

@@ -1,5 +1,5 @@
 -- A text is cut into gaps and tokens, or the first fault stands in it.
-use Rattle.std.specs.Prelude.{◌≡◌, ℕ, Bool, true, false, ◌||◌, List, [], ◌∷◌, Ok, Err, encode_utf8_all}
+use Rattle.std.specs.Prelude.{◌≡◌, ℕ, Bool, false, ◌||◌, List, [], ◌∷◌, Ok, Err, encode_utf8_all}
 use Rattle.std.specs.Str.{chars}
 use Rattle.js_tokens.specs.Place.{Place, front}
 use Rattle.js_tokens.specs.Classes.{is_part}

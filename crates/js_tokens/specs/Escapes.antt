@@ -1,7 +1,7 @@
 -- Escapes in strings and templates (ECMA-262, 6th edition, 11.8.4).
-use Rattle.std.specs.Prelude.{ℕ, ◌+◌, ◌-◌, ◌*◌, ◌<◌, ◌≤◌, ◌==◌, Bool, true, false, ◌&&◌, ◌||◌, List, [], ◌∷◌, Option, Some, None, Result, Ok, Err, if◌then◌else◌, nat_lt}
-use Rattle.std.specs.Char.{len_utf8, digit_value}
-use Rattle.js_tokens.specs.Place.{Place, behind, eaten, first_is, ◌>>=◌}
+use Rattle.std.specs.Prelude.{ℕ, ◌+◌, ◌*◌, ◌<◌, ◌≤◌, ◌==◌, Bool, ◌&&◌, ◌||◌, List, [], ◌∷◌, Option, Some, None, Result, Ok, Err, if◌then◌else◌, nat_lt}
+use Rattle.std.specs.Char.{digit_value}
+use Rattle.js_tokens.specs.Place.{Place, behind, eaten, ◌>>=◌}
 use Rattle.js_tokens.specs.Classes.{is_digit, is_newline, first_is_digit}
 use Rattle.js_tokens.specs.Numbers.{is_digit_of, digits_at}
 use Rattle.js_tokens.specs.declared.kinds.TokenFault.{TokenFault}

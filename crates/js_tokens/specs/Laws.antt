@@ -1,14 +1,14 @@
 -- Laws of the cut of a text.
-use Rattle.std.specs.Prelude.{◌≡◌, ℕ, ◌+◌, ◌^◌, ◌<◌, ◌≤◌, Bool, true, false, ◌&&◌, ◌⊎◌, List, [], ◌∷◌, length, take, Option, Some, None, Ok, IsUtf8, nat_le}
+use Rattle.std.specs.Prelude.{◌≡◌, ℕ, ◌^◌, ◌<◌, ◌≤◌, Bool, true, ◌⊎◌, List, [], ◌∷◌, length, take, Some, Ok}
 use Rattle.std.specs.Str.{chars}
 use Rattle.std.specs.List.{All}
 use Rattle.js_tokens.specs.Place.{Place}
-use Rattle.js_tokens.specs.Classes.{is_start, is_part, ends_number}
+use Rattle.js_tokens.specs.Classes.{is_start, ends_number}
 use Rattle.js_tokens.specs.Words.{is_name}
 use Rattle.js_tokens.specs.Numbers.{number_at}
 use Rattle.js_tokens.specs.Marks.{punctuators, mark_among, begins_with}
 use Rattle.js_tokens.specs.Scan.{scan_at}
-use Rattle.js_tokens.specs.Cut.{CutOf, FirstFault, name_at}
+use Rattle.js_tokens.specs.Cut.{FirstFault, name_at}
 use Rattle.js_tokens.specs.Span.{Passes}
 use Rattle.js_tokens.specs.Tokens.{AreTokens}
 use Rattle.js_tokens.specs.declared.kinds.Mark.{Mark}

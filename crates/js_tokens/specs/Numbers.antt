@@ -1,7 +1,7 @@
 -- Numbers (ECMA-262, 6th edition, 11.8.3): whole numbers below 2^53, in base 10, 16, 8 or 2.
-use Rattle.std.specs.Prelude.{ℕ, ◌+◌, ◌*◌, ◌^◌, ◌≤◌, ◌==◌, Bool, true, false, ◌||◌, List, [], ◌∷◌, Option, Some, None, Result, Ok, Err, if◌then◌else◌, nat_lt}
+use Rattle.std.specs.Prelude.{ℕ, ◌+◌, ◌*◌, ◌^◌, ◌≤◌, ◌==◌, Bool, ◌||◌, List, [], ◌∷◌, Option, Some, None, Result, Ok, Err, if◌then◌else◌, nat_lt}
 use Rattle.std.specs.Char.{len_utf8, digit_value}
-use Rattle.js_tokens.specs.Place.{Place, behind_first, first_char}
+use Rattle.js_tokens.specs.Place.{Place, behind_first}
 use Rattle.js_tokens.specs.Classes.{ends_number}
 use Rattle.js_tokens.specs.declared.kinds.TokenFault.{TokenFault}
 use Rattle.js_tokens.specs.declared.kinds.TokenFault.TheVariants as faults

@@ -1,5 +1,5 @@
 -- Strings (ECMA-262, 6th edition, 11.8.4) and pieces of templates (11.8.6), step by step.
-use Rattle.std.specs.Prelude.{ℕ, zero, suc, ◌+◌, ◌-◌, ◌*◌, ◌==◌, Bool, true, false, ◌&&◌, ◌||◌, List, [], ◌∷◌, length, Option, Some, None, Result, Ok, Err, if◌then◌else◌, nat_lt}
+use Rattle.std.specs.Prelude.{ℕ, zero, suc, ◌+◌, ◌-◌, ◌*◌, ◌==◌, Bool, true, false, ◌&&◌, List, [], ◌∷◌, length, Result, Ok, Err, if◌then◌else◌, nat_lt}
 use Rattle.std.specs.Char.{len_utf8}
 use Rattle.js_tokens.specs.Place.{Place, behind, behind_first, eaten, first_is, ◌>>=◌}
 use Rattle.js_tokens.specs.Classes.{is_newline}

@@ -1,13 +1,10 @@
 -- The tokens of a text, and where each of them stands.
-use Rattle.std.specs.Prelude.{◌≡◌, ℕ, ◌<◌, ◌≤◌, Bool, true, false, List, [], ◌∷◌, length, drop, Result, Ok, Err, IsCharBoundary}
-use Rattle.std.specs.Str.{chars}
-use Rattle.js_tokens.specs.Place.{Place}
+use Rattle.std.specs.Prelude.{◌≡◌, ℕ, ◌<◌, ◌≤◌, Bool, true, false, List, [], ◌∷◌, IsCharBoundary}
 use Rattle.js_tokens.specs.Cut.{CutOf}
 use Rattle.js_tokens.specs.Heads.{with_heads}
 use Rattle.js_tokens.specs.declared.kinds.Token.{Token}
 use Rattle.js_tokens.specs.declared.kinds.TokenKind.{TokenKind}
 use Rattle.js_tokens.specs.declared.kinds.TokenKind.TheVariants as kinds
-use Rattle.js_tokens.specs.declared.kinds.TokenFault.{TokenFault}
 
 -- these are the tokens of the text, which is given by its bytes: its cut, with the heads marked
 abbrev pub AreTokens : List ℕ → List Token → Type 0

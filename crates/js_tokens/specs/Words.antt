@@ -1,6 +1,6 @@
 -- The words that are reserved everywhere (ECMA-262, 6th edition, 11.6.2).
-use Rattle.std.specs.Prelude.{ℕ, Bool, true, false, List, [], ◌∷◌, Option, Some, None, is_some, codes, if◌then◌else◌}
-use Rattle.std.specs.Str.{bytes_eq, chars}
+use Rattle.std.specs.Prelude.{ℕ, Bool, true, false, List, [], ◌∷◌, Option, Some, None, codes, if◌then◌else◌}
+use Rattle.std.specs.Str.{bytes_eq}
 use Rattle.js_tokens.specs.Classes.{is_start, is_part}
 use Rattle.js_tokens.specs.declared.kinds.Word.{Word}
 use Rattle.js_tokens.specs.declared.kinds.Word.TheVariants as words

@@ -1,5 +1,5 @@
-use Rattle.std.proofs.Common.{◌≡◌, ◌-◌, suc, ◌∷◌, length, drop, sym, ap, ◌∙◌, subst, arith}
-use Rattle.js_tokens.specs.Heads.{head_of, closers_after, role_of, arrow_next}
+use Rattle.std.proofs.Common.{◌≡◌, ◌-◌, suc, ◌∷◌, drop, sym, ap, ◌∙◌, subst, arith}
+use Rattle.js_tokens.specs.Heads.{head_of, closers_after, arrow_next}
 use Rattle.js_tokens.proofs.HeadMarks.{Tell, tell_more, head_told, marked, rest_from}
 use Rattle.js_tokens.proofs.heads.mark_heads.Goals as goal
 

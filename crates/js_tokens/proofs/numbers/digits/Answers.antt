@@ -1,5 +1,4 @@
-use Rattle.std.proofs.Common.{◌≡◌, ◌+◌, ◌*◌, ◌∷◌, ap, ◌∙◌, sym, length, arith}
-use Rattle.std.specs.Char.{len_utf8}
+use Rattle.std.proofs.Common.{◌+◌, ◌*◌, ap, ◌∙◌, length, arith}
 use Rattle.js_tokens.specs.Numbers.{capped, small_at, digits_from}
 use Rattle.js_tokens.proofs.Cursors.{passed}
 use Rattle.js_tokens.proofs.Digits.{digit_passed}

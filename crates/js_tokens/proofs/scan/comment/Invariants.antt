@@ -1,5 +1,5 @@
 use Rattle.std.proofs.Common.{◌≡◌, ◌≤◌, false, length}
-use Rattle.js_tokens.specs.Scan.{comment_from, comment_at, comment_to}
+use Rattle.js_tokens.specs.Scan.{comment_from}
 use Rattle.js_tokens.proofs.scan.comment.Given as goal
 
 abbrev pub invariant-loop-c : goal.invariant-loop-c

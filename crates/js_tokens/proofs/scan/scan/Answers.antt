@@ -1,6 +1,6 @@
 use Rattle.std.proofs.Common.{◌≡◌, ℕ, ◌+◌, Bool, false, List, ◌∷◌, sym, ap, ◌∙◌, subst, refl}
 use Rattle.std.specs.Char.{len_utf8}
-use Rattle.js_tokens.specs.Place.{Place, Gives, behind}
+use Rattle.js_tokens.specs.Place.{Place, Gives}
 use Rattle.js_tokens.specs.Classes.{is_space, is_newline, is_start}
 use Rattle.js_tokens.specs.Scan.{scan_at, token_at}
 use Rattle.js_tokens.proofs.scan.scan.Goals as goal

@@ -1,8 +1,8 @@
-use Rattle.std.proofs.Common.{◌≡◌, Bool, true, false, not, Result, Ok, Err, sym, ap, ◌∙◌, refl}
+use Rattle.std.proofs.Common.{◌≡◌, Bool, false, not, Result, Ok, sym, ap, ◌∙◌}
 use Rattle.std.specs.Prelude.{◌&&◌}
 use Rattle.js_tokens.specs.Place.{Place}
 use Rattle.js_tokens.specs.Strings.{string_at, closing}
-use Rattle.js_tokens.specs.Spelled.{is_whole, is_empty, between_two}
+use Rattle.js_tokens.specs.Spelled.{is_whole, is_empty}
 use Rattle.js_tokens.specs.declared.kinds.TokenFault.{TokenFault}
 use Rattle.js_tokens.proofs.spelled.closes_string.Goals as goal
 

@@ -1,4 +1,4 @@
-use Rattle.std.proofs.Common.{◌≡◌, sym, subst, arith}
+use Rattle.std.proofs.Common.{sym, subst, arith}
 use Rattle.js_tokens.specs.Strings.{template_step, template_at, closing}
 use Rattle.js_tokens.proofs.Turns.{turn_on, GoesOn}
 use Rattle.js_tokens.proofs.strings.template.Goals as goal

@@ -1,4 +1,4 @@
-use Rattle.std.proofs.Common.{◌≡◌, ◌≤◌, length}
+use Rattle.std.proofs.Common.{◌≤◌, length}
 use Rattle.js_tokens.specs.Strings.{template_step, template_at, closing}
 use Rattle.js_tokens.proofs.Turns.{Left}
 use Rattle.js_tokens.proofs.strings.template.Given as goal

@@ -1,6 +1,6 @@
-use Rattle.std.proofs.Common.{◌≡◌, ◌≤◌, ◌||◌, Ok, false, sym, ap, ◌∙◌, subst, arith}
+use Rattle.std.proofs.Common.{◌≡◌, ◌≤◌, ◌||◌, Ok, sym, ap, ◌∙◌, subst, arith}
 use Rattle.std.specs.Prelude.{IsCharBoundary, slice_range}
-use Rattle.js_tokens.specs.Cut.{CutOf, FirstFault, here, CutFails}
+use Rattle.js_tokens.specs.Cut.{CutOf, FirstFault, here}
 use Rattle.js_tokens.specs.Scan.{scan_at}
 use Rattle.js_tokens.specs.Words.{kind_of_name}
 use Rattle.js_tokens.proofs.Spans.{scan_bounds, scan_stands, boundary, name_text}

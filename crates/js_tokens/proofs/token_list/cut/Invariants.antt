@@ -1,5 +1,4 @@
-use Rattle.std.proofs.Common.{◌≡◌, ◌++◌, false, List, length}
-use Rattle.std.specs.Str.{chars}
+use Rattle.std.proofs.Common.{◌++◌, List, length}
 use Rattle.js_tokens.specs.Cut.{Cut, CutFails, CutOf, FirstFault}
 use Rattle.js_tokens.specs.Span.{Stands}
 use Rattle.js_tokens.specs.declared.kinds.TokenFault.{TokenFault}

@@ -1,4 +1,4 @@
-use Rattle.std.proofs.Common.{◌≡◌, ◌+◌, ◌≤◌, length, sym, ap, ◌∙◌, subst}
+use Rattle.std.proofs.Common.{◌+◌, ◌≤◌, length, sym, subst}
 use Rattle.std.specs.List.{All}
 use Rattle.js_tokens.specs.Values.{IsTokenOf}
 use Rattle.js_tokens.specs.Tokens.{AreEnded}

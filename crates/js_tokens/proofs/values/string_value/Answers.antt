@@ -1,5 +1,4 @@
-use Rattle.std.proofs.Common.{◌≡◌, ◌+◌, ◌++◌, [], drop, length, string_bytes, sym, ap, ◌∙◌, subst, Ok}
-use Rattle.std.specs.Prelude.{encode_utf8}
+use Rattle.std.proofs.Common.{◌+◌, [], drop, string_bytes, sym, ap, ◌∙◌, subst, Ok}
 use Rattle.std.specs.Str.{chars}
 use Rattle.std.specs.Char.{len_utf8}
 use Rattle.js_tokens.specs.Strings.{string_step}

@@ -1,4 +1,4 @@
-use Rattle.std.proofs.Common.{◌≡◌, [], drop, length, string_bytes}
+use Rattle.std.proofs.Common.{[], drop, length, string_bytes}
 use Rattle.std.specs.Str.{chars}
 use Rattle.js_tokens.specs.Strings.{string_step}
 use Rattle.js_tokens.specs.Values.{string_from}

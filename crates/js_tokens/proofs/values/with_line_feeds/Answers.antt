@@ -1,4 +1,4 @@
-use Rattle.std.proofs.Common.{◌≡◌, ◌+◌, ◌≤◌, false, string_bytes, arith}
+use Rattle.std.proofs.Common.{false, string_bytes, arith}
 use Rattle.std.specs.Prelude.{encode_utf8_all}
 use Rattle.js_tokens.specs.Values.{until, line_feeds}
 use Rattle.js_tokens.proofs.Raw.{feeds_end}

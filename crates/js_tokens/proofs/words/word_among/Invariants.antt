@@ -1,4 +1,4 @@
-use Rattle.std.proofs.Common.{◌≡◌, ◌+◌, length, drop, map}
+use Rattle.std.proofs.Common.{◌≡◌, drop, map}
 use Rattle.js_tokens.specs.Words.{word_among}
 use Rattle.js_tokens.proofs.words.word_among.Given as goal
 
