@@ -11,6 +11,7 @@ mod sink;
 mod source;
 mod standard;
 mod steps;
+mod sure;
 mod tape;
 
 pub use chars::Chars;
@@ -23,6 +24,7 @@ pub use sink::Sink;
 pub use source::Source;
 pub use standard::{StdSink, StdSource};
 pub use steps::{Plain, Steps};
+pub use sure::{SureSink, SureSource};
 pub use tape::Tape;
 
 #[cfg(test)]

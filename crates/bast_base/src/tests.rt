@@ -42,3 +42,24 @@ fn tells_what_stops_a_source(rt: HostRuntime) -> Result<(), Fail> {
     assert_eq!(rt; answer, Some(FillError::ReadFault));
     Ok(())
 }
+
+// Neither end fails while there is room: a source is read to its end whatever the chunks, and a sink is full only where
+// a piece finds no room.
+#[test]
+fn sure_ends_take_all_that_there_is_room_for(rt: HostRuntime) -> Result<(), Fail> {
+    let alloc = rt.alloc();
+    let mut source = SureSource::new(b"0123456789".to_vec(alloc)?);
+    let Ok(tape) = Tape::<Plain>::read_from(alloc, &mut source, 10) else {
+        return Err(Fail::new("not read"));
+    };
+    assert_eq!(rt; tape.len(), 10);
+    let mut sink = SureSink::new(vec![in alloc; 0; 4]?);
+    assert_eq!(rt; sink.write(b"abc").ok(), Some(3));
+    assert_eq!(rt; sink.write(b"").ok(), Some(0));
+    assert_eq!(rt; sink.write(b"def").ok(), Some(1));
+    assert!(rt; sink.write(b"ef").is_err());
+    assert!(rt; sink.write(b"").is_ok());
+    assert!(rt; sink.flush().is_ok());
+    assert_eq!(rt; sink.written(), b"abcd".as_slice());
+    Ok(())
+}

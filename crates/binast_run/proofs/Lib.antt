@@ -6,9 +6,13 @@ pub mod FirstWhole
 pub mod InGrammar
 pub mod NamedTrees
 pub mod NodesSpelled
+pub mod OneAnswer
 pub mod OneTree
 pub mod OutputLemmas
 pub mod Outputs
 pub mod ReadFile
+pub mod Scan
+pub mod SourceAnswers
 pub mod SourceFile
+pub mod Statements
 pub mod Used

@@ -1,9 +1,9 @@
 -- What was read and what was made of it, as the answer of the words to the input.
-use Rattle.std.proofs.Common.{◌≡◌, ℕ, ◌≤◌, List, length, Option, Some, None, subst, sym}
+use Rattle.std.proofs.Common.{◌≡◌, ℕ, ◌≤◌, List, length, Option, Some, None, IfSome, inr, refl, subst, sym}
 use Rattle.bast_base.specs.Source.{TakesAll}
 use Rattle.binast_run.specs.declared.command.Command.{Command}
 use Rattle.binast_run.specs.Output.{AppendsFront}
-use Rattle.binast_run.specs.Result.{Answer, output, AnswersInput, AnswersWords, OutputsFront}
+use Rattle.binast_run.specs.Result.{Answer, output, AnswersInput, AnswersWords, IsComplete, OutputsFront}
 use Rattle.binast_run.specs.Words.{command_in}
 
 answers_words : (o : Option Command) (c : Command) (input : List ℕ) (a : Answer) → o ≡ Some c → AnswersInput c input a → AnswersWords o input a
@@ -23,3 +23,10 @@ outputs_front words (Some input) left' old new tape text c is takes small answer
   },
   front,
 )
+
+-- the status is that of what was made of the input
+pub answered : (words : List (List ℕ)) (left left' : Option (List ℕ)) (tape : List ℕ) (c : Command) (a : Answer) (P Q : Type 0)
+    → command_in words ≡ Some c → TakesAll left left' tape → AnswersInput c tape a → IfSome left (λ input. IsComplete words input P Q a.status)
+answered words None left' tape c a P Q is takes answer = tt
+answered words (Some input) left' tape c a P Q is takes answer =
+    λ _ _ _ _. inr (a, answers_words (command_in words) c input a is (subst (λ (x : List ℕ). AnswersInput c x a) takes.0 answer), refl)

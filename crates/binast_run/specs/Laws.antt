@@ -7,13 +7,17 @@ use Rattle.bast_schema.specs.Tree.{Tree}
 use Rattle.container.specs.declared.layout.Layout.{Layout}
 use Rattle.container.specs.Atoms.{atoms}
 use Rattle.container.specs.InFile.{InFile}
+use Rattle.binast_run.specs.declared.command.Command.{Command}
 use Rattle.binast_run.specs.File.{file, nothing}
 use Rattle.binast_run.specs.FirstKinds.{first_other}
+use Rattle.binast_run.specs.FirstSource.{IsFirstSource}
 use Rattle.binast_run.specs.Reading.{first_fault, IsFileOfScript}
+use Rattle.binast_run.specs.Result.{Answer, AnswersInput, most_bytes}
 use Rattle.binast_run.specs.SourceTree.{source_tree}
 
 abbrev pub FilesOfFirstSourcesAreInGrammar : Type 0
-FilesOfFirstSourcesAreInGrammar = (n : ℕ) → n < 2 ^ 53 → InFile (file nothing (source_tree n)) nothing (source_tree n)
+FilesOfFirstSourcesAreInGrammar =
+    (ns text : List ℕ) → IsFirstSource ns text → length text ≤ most_bytes → InFile (file nothing (source_tree ns)) nothing (source_tree ns)
 
 -- a file that is read as a tree without windows is in the grammar, and spells that tree
 abbrev pub FilesThatAreReadAreInGrammar : Type 0
@@ -34,3 +38,11 @@ FilesHaveOneTree = (bytes : List ℕ) (h g : Held) (t u : Tree) → InFile bytes
 abbrev pub FilesOfFirstKindsAreReadSo : Type 0
 FilesOfFirstKindsAreReadSo =
     (bytes : List ℕ) (h : Held) (t : Tree) (l : Layout) (u : Tree) → InFile bytes h t → first_other t ≡ None → IsFileOfScript bytes l u → first_other u ≡ None
+
+-- an input has one answer of each command
+abbrev pub InputsHaveOneAnswer : Type 0
+InputsHaveOneAnswer = (command : Command) (input : List ℕ) (a b : Answer) → AnswersInput command input a → AnswersInput command input b → a ≡ b
+
+-- a file is read as one tree, over one layout
+abbrev pub FilesAreReadAsOneTree : Type 0
+FilesAreReadAsOneTree = (bytes : List ℕ) (l m : Layout) (t u : Tree) → IsFileOfScript bytes l t → IsFileOfScript bytes m u → (l ≡ m) × (t ≡ u)

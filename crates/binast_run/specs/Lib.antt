@@ -1,5 +1,6 @@
 pub mod File
 pub mod FirstKinds
+pub mod FirstScan
 pub mod FirstSource
 pub mod Laws
 pub mod Lines

@@ -1,5 +1,5 @@
 -- What the program answers to words and an input.
-use Rattle.std.specs.Prelude.{◌≡◌, ℕ, ◌≤◌, List, [], length, codes, Option, Some, None, IfSome}
+use Rattle.std.specs.Prelude.{◌≡◌, ℕ, ◌<◌, ◌≤◌, List, [], length, Option, Some, None, IfSome, IsTrue, is_some, ◌⊎◌}
 use Rattle.std.specs.Io.KnownBytes.{Appends}
 use Rattle.bast_base.specs.declared.errors.FormatFault.{FormatFault}
 use Rattle.bast_schema.specs.Tree.{Tree}
@@ -11,12 +11,12 @@ use Rattle.binast_run.specs.declared.command.Command.TheVariants.{EncodeEager, D
 use Rattle.binast_run.specs.declared.status.Fault.TheVariants.{BadWords}
 use Rattle.binast_run.specs.File.{file, nothing}
 use Rattle.binast_run.specs.FirstKinds.{first_other}
-use Rattle.binast_run.specs.FirstSource.{first_source}
-use Rattle.binast_run.specs.Lines.{accepted_line, fault_line, not_yet_line}
+use Rattle.binast_run.specs.FirstSource.{IsFirstSource, IsNoFirstSource}
+use Rattle.binast_run.specs.Lines.{accepted_line, fault_line, large_file_line, not_yet_line, source_not_yet_line}
 use Rattle.binast_run.specs.Output.{AppendsFront}
 use Rattle.binast_run.specs.Reading.{first_fault, IsFileOfScript}
 use Rattle.binast_run.specs.SourceTree.{source_tree}
-use Rattle.binast_run.specs.Status.{line, line_of}
+use Rattle.binast_run.specs.Status.{line_of}
 use Rattle.binast_run.specs.Words.{command_in}
 
 -- a status, and the output for 0 or the line for another
@@ -30,10 +30,15 @@ output text = record { status = 0; text = text }
 abbrev pub refusal : List ℕ → Answer
 refusal text = record { status = 1; text = text }
 
--- the answer to a source
-abbrev pub answer_to : Option ℕ → Answer
-answer_to None = refusal (line (codes "source: NotYet"))
-answer_to (Some n) = output (file nothing (source_tree n))
+-- how many bytes an input and an encoded file may have
+abbrev pub most_bytes : ℕ
+most_bytes = 8388608
+
+-- The answer to a source: its file, or the line that says why there is none.
+pub data AnswersSource (input : List ℕ) : Answer → Type 0 where
+  not_yet : (at : ℕ) → IsNoFirstSource input at → AnswersSource input (refusal (source_not_yet_line at))
+  large : (ns : List ℕ) → IsFirstSource ns input → most_bytes < length (file nothing (source_tree ns)) → AnswersSource input (refusal large_file_line)
+  encoded : (ns : List ℕ) → IsFirstSource ns input → length (file nothing (source_tree ns)) ≤ most_bytes → AnswersSource input (output (file nothing (source_tree ns)))
 
 -- an output, but where a node has another kind than the first ones
 abbrev pub unless_other : Option ℕ → List ℕ → Answer
@@ -47,7 +52,7 @@ pub data AnswersFile (bytes : List ℕ) (text : Layout → Tree → List ℕ) : 
 
 -- the answer of a command to its input
 abbrev pub AnswersInput : Command → List ℕ → Answer → Type 0
-AnswersInput EncodeEager input a = a ≡ answer_to (first_source input)
+AnswersInput EncodeEager input a = AnswersSource input a
 AnswersInput Decode input a = AnswersFile input (λ l t. listed l.strings t) a
 AnswersInput Check input a = AnswersFile input (λ l t. accepted_line (length input)) a
 
@@ -68,7 +73,7 @@ looked words input = looked_by (command_in words) input
 pub record Answers (words : List (List ℕ)) (input : List ℕ) (left' : Option (List ℕ)) (a : Answer) : Type 0 where
   pub answer : AnswersWords (command_in words) input a
   pub all : left' ≡ Some []
-  pub within : length input ≤ 8388608
+  pub within : length input ≤ most_bytes
 
 -- notes has this line behind its old bytes, or only a front of it where its count rose
 pub record Notes (old new : Option (List ℕ)) (before now : ℕ) (text : List ℕ) : Type 0 where
@@ -86,3 +91,16 @@ OutputsFront words left left' old new = IfSome left (λ input. (text : List ℕ)
 -- the input is refused, and notes has the line that says why
 abbrev pub Refuses : List (List ℕ) → Option (List ℕ) → Option (List ℕ) → Option (List ℕ) → Option (List ℕ) → ℕ → ℕ → Type 0
 Refuses words left left' old new before now = IfSome left (λ input. (text : List ℕ) × Answers words input left' (refusal text) × Notes old new before now text)
+
+-- the status is that of an answer of the words to the input, unless memory ran out
+abbrev pub IsAnswered : List (List ℕ) → List ℕ → ℕ → Type 0
+IsAnswered words input status = (status ≡ 5) ⊎ ((a : Answer) × AnswersWords (command_in words) input a × (status ≡ a.status))
+
+-- A command whose input has no more bytes than it may is answered where neither count of faults rose.
+abbrev pub IsComplete : List (List ℕ) → List ℕ → Type 0 → Type 0 → ℕ → Type 0
+IsComplete words input source_rose sink_rose status =
+    IsTrue (is_some (command_in words)) → length input ≤ most_bytes → (source_rose → ⊥) → (sink_rose → ⊥) → IsAnswered words input status
+
+-- each output that answers the words takes no more bytes than these
+abbrev pub FitsIn : List (List ℕ) → List ℕ → ℕ → Type 0
+FitsIn words input spare = (text : List ℕ) → AnswersWords (command_in words) input (output text) → length text ≤ spare

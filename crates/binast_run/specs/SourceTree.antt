@@ -1,7 +1,7 @@
--- The tree of a first source.
-use Rattle.std.specs.Prelude.{ℕ, false}
+-- The tree of a first source: a script of one statement for each number.
+use Rattle.std.specs.Prelude.{ℕ, List, [], ◌∷◌, false}
 use Rattle.bast_schema.specs.declared.kind.Kind.TheVariants.{Script, AssertedScriptGlobalScope, ExpressionStatement, LiteralNumericExpression}
-use Rattle.bast_schema.specs.Tree.{Tree, branch, child, listed, flag, whole, none, more}
+use Rattle.bast_schema.specs.Tree.{Tree, branch, child, listed, flag, whole, Data, none, more}
 
 abbrev pub literal : ℕ → Tree
 literal n = branch LiteralNumericExpression (more (whole n) none)
@@ -13,6 +13,11 @@ statement n = branch ExpressionStatement (more (child (literal n)) none)
 abbrev pub empty_scope : Tree
 empty_scope = branch AssertedScriptGlobalScope (more (listed none) (more (flag false) none))
 
--- a script without directives and entries, of one statement
-abbrev pub source_tree : ℕ → Tree
-source_tree n = branch Script (more (listed none) (more (child empty_scope) (more (listed (more (child (statement n)) none)) none)))
+-- a statement for each number
+abbrev pub statements : List ℕ → Data
+statements [] = none
+statements (n ∷ ns) = more (child (statement n)) (statements ns)
+
+-- a script without directives and entries, of these statements
+abbrev pub source_tree : List ℕ → Tree
+source_tree ns = branch Script (more (listed none) (more (child empty_scope) (more (listed (statements ns)) none)))

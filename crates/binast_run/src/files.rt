@@ -1,15 +1,15 @@
 // The commands that read a file.
-ghost use Rattle.std.specs.Prelude.{◌≡◌, ◌≤◌, ◌+◌, ◌<◌, ◌^◌, length, sum, IsTrue, IfOk, string_bytes};
+ghost use Rattle.std.specs.Prelude.{◌≡◌, ◌≤◌, ◌+◌, ◌<◌, ◌^◌, length, sum, IsTrue, IfOk};
 ghost use Rattle.bast_schema.specs.Tree.{nodes, typed};
 ghost use Rattle.js_printer.specs.Names.{is_named};
 ghost use Rattle.binast_run.specs.Outcome.{answer_in};
 ghost use Rattle.binast_run.specs.Reading.{ReadsFile};
-ghost use Rattle.binast_run.specs.Result.{output, refusal, AnswersInput};
+ghost use Rattle.binast_run.specs.Result.{AnswersInput};
 ghost use Rattle.binast_run.specs.declared.command.Command.TheVariants.{Check, Decode};
 
 use crate::first_kinds::first_other_of;
 use crate::lines::{accepted_line, fault_line, not_yet_line};
-use crate::outcome::Outcome;
+use crate::outcome::{Outcome, answered, refused};
 use bast_base::{Halt, Memory, Steps, Tape};
 use bast_schema::Node;
 use container::{Layout, read_layout};
@@ -62,18 +62,6 @@ pub(crate) fn check<L>(
             None => Ok(answered(accepted_line(alloc, tape.len())?)),
         },
     }
-}
-
-fn refused(line: String) -> Outcome
-    ensures { answer_in result ≡ refusal (string_bytes line) }
-{
-    Outcome::Refusal(line.into_bytes())
-}
-
-fn answered(text: String) -> Outcome
-    ensures { answer_in result ≡ output (string_bytes text) }
-{
-    Outcome::Output(text.into_bytes())
 }
 
 // Reads a file against the first counter.

@@ -1,5 +1,5 @@
 // What holds of the definitions alone.
-ghost use Rattle.binast_run.specs.Laws.{FilesHaveOneTree, FilesInGrammarHaveNoFault, FilesOfFirstKindsAreReadSo, FilesOfFirstSourcesAreInGrammar, FilesThatAreReadAreInGrammar};
+ghost use Rattle.binast_run.specs.Laws.{FilesHaveOneTree, FilesInGrammarHaveNoFault, FilesOfFirstKindsAreReadSo, FilesOfFirstSourcesAreInGrammar, FilesAreReadAsOneTree, FilesThatAreReadAreInGrammar, InputsHaveOneAnswer};
 
 /// The file of a first source is in the grammar of files, and spells that source's tree.
 pub fn files_of_first_sources_are_in_grammar()
@@ -24,4 +24,14 @@ pub fn files_have_one_tree()
 /// A file in the grammar of files whose tree has the first kinds alone is read as such a tree.
 pub fn files_of_first_kinds_are_read_so()
     ensures { FilesOfFirstKindsAreReadSo }
+{}
+
+/// A file is read as one tree, over one layout.
+pub fn files_are_read_as_one_tree()
+    ensures { FilesAreReadAsOneTree }
+{}
+
+/// An input has one answer of each command.
+pub fn inputs_have_one_answer()
+    ensures { InputsHaveOneAnswer }
 {}

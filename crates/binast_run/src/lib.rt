@@ -7,6 +7,7 @@ mod files;
 mod first_kinds;
 mod first_source;
 mod gate;
+mod in_memory;
 mod laws;
 mod lines;
 mod outcome;
@@ -19,8 +20,10 @@ mod tests;
 mod writer;
 
 pub use gate::{Gate, Idle};
+pub use in_memory::run_in_memory;
 pub use laws::{
-    files_have_one_tree, files_in_grammar_have_no_fault, files_of_first_kinds_are_read_so,
-    files_of_first_sources_are_in_grammar, files_that_are_read_are_in_grammar,
+    files_are_read_as_one_tree, files_have_one_tree, files_in_grammar_have_no_fault,
+    files_of_first_kinds_are_read_so, files_of_first_sources_are_in_grammar,
+    files_that_are_read_are_in_grammar, inputs_have_one_answer,
 };
 pub use program::run;

@@ -1,6 +1,6 @@
-// The lines that tell of a file.
+// The lines that tell of a source or a file.
 ghost use Rattle.std.specs.Prelude.{◌≡◌, ◌++◌, codes, decimal, string_bytes, IfOk, OnOk};
-ghost use Rattle.binast_run.specs.Lines.{accepted_line as accepted, fault_line as of_fault, not_yet_line as not_yet, why_text};
+ghost use Rattle.binast_run.specs.Lines.{accepted_line as accepted, fault_line as of_fault, large_file_line as large_file, not_yet_line as not_yet, source_not_yet_line as source_not_yet, why_text};
 
 use bast_base::{FormatFault, Memory, Why};
 use itoa::Buffer;
@@ -26,6 +26,23 @@ pub(crate) fn not_yet_line(alloc: Global, node: u32) -> Result<String, Memory>
     put_number(node, &mut text)?;
     text.push('\n')?;
     Ok(text)
+}
+
+// The line of a text that is no first source, of which so many bytes begin one.
+pub(crate) fn source_not_yet_line(alloc: Global, at: u32) -> Result<String, Memory>
+    ensures { IfOk result (λ text. string_bytes text ≡ source_not_yet at) }
+{
+    let mut text = String::from_str(alloc, "source: NotYet at ")?;
+    put_number(at, &mut text)?;
+    text.push('\n')?;
+    Ok(text)
+}
+
+// The line of a source whose file would be too large.
+pub(crate) fn large_file_line(alloc: Global) -> Result<String, Memory>
+    ensures { IfOk result (λ text. string_bytes text ≡ large_file) }
+{
+    Ok(String::from_str(alloc, "file: larger than 8388608 bytes\n")?)
 }
 
 // The line of an accepted file of so many bytes, which has no lazy function.

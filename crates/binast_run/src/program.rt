@@ -1,21 +1,18 @@
 ghost use Rattle.std.specs.Prelude.{◌≡◌, ◌≤◌, ◌+◌, length, sum, nat_eq, is_none, IfSome};
 ghost use Rattle.bast_base.specs.Causes.{Rose};
 ghost use Rattle.bast_base.specs.Source.{TakesAtMost, TakesMore};
-ghost use Rattle.binast_run.specs.Result.{looked, Notes, Outputs, OutputsFront, Refuses};
+ghost use Rattle.binast_run.specs.Result.{looked, FitsIn, IsComplete, Notes, Outputs, OutputsFront, Refuses};
 ghost use Rattle.binast_run.specs.Status.{code, line_of};
 ghost use Rattle.binast_run.specs.Words.{command_in};
 ghost use Rattle.binast_run.specs.declared.status.Fault.TheVariants.{BadWords, ReadFault, WriteFault, OutOfMemory, TooLarge};
 
 use crate::command::command_of;
 use crate::gate::Gate;
-use crate::outcome::{Outcome, outcome_of};
+use crate::outcome::{MOST_BYTES, Outcome, outcome_of};
 use crate::output::write_all;
 use crate::status::Fault;
 use bast_base::{Chars, FillError, Memory, Sink, Source, Steps, Tape};
 use std::alloc::Global;
-
-// How many bytes an input may have.
-const INPUT_LIMIT: u32 = 8_388_608;
 
 /// Does all that the program does, and answers its status.
 ///
@@ -52,12 +49,16 @@ pub fn run<L: Send + Sync, S: Source<L>, K: Sink, N: Sink, G: Gate>(
     ensures top { result ≤ 6 }
 
     // Otherwise the sink is unchanged, and notes has the status's line.
-    ensures sink { (result ≡ 0 → ⊥) → (result ≡ 4 → ⊥) → K.written sink.new ≡ K.written sink.old }
+    ensures sink { (result ≡ 0 → ⊥) → (result ≡ 4 → ⊥) → sink.new ≡ sink.old }
     ensures note_words { result ≡ 2 → Notes (N.written notes.old) (N.written notes.new) (N.faults notes.old) (N.faults notes.new) (line_of BadWords) }
     ensures note_read { result ≡ 3 → Notes (N.written notes.old) (N.written notes.new) (N.faults notes.old) (N.faults notes.new) (line_of ReadFault) }
     ensures note_write { result ≡ 4 → Notes (N.written notes.old) (N.written notes.new) (N.faults notes.old) (N.faults notes.new) (line_of WriteFault) }
     ensures note_memory { result ≡ 5 → Notes (N.written notes.old) (N.written notes.new) (N.faults notes.old) (N.faults notes.new) (line_of OutOfMemory) }
     ensures note_large { result ≡ 6 → Notes (N.written notes.old) (N.written notes.new) (N.faults notes.old) (N.faults notes.new) (line_of TooLarge) }
+
+    // Where nothing fails, a command is answered, and a sink with room for each answer does not fail.
+    ensures complete { IfSome (S.left source.old) (λ input. IsComplete words.now input (Rose (S.faults source.old) (S.faults source.new)) (Rose (K.faults sink.old) (K.faults sink.new)) result) }
+    ensures room { IfSome (S.left source.old) (λ input. IfSome (K.spare sink.old) (λ spare. FitsIn words.now input spare → K.faults sink.new ≡ K.faults sink.old)) }
 
     // It looks at no more bytes than the command may.
     ensures cost { IfSome (S.left source.old) (λ input. sum steps.new ≤ sum steps.old + looked words.now input) }
@@ -65,7 +66,7 @@ pub fn run<L: Send + Sync, S: Source<L>, K: Sink, N: Sink, G: Gate>(
     let Some(command) = command_of(words) else {
         return tell(notes, Fault::BadWords);
     };
-    let tape = match Tape::read_from(alloc, source, INPUT_LIMIT) {
+    let tape = match Tape::read_from(alloc, source, MOST_BYTES) {
         Ok(tape) => tape,
         Err(FillError::Memory) => return tell(notes, Fault::OutOfMemory),
         Err(FillError::ReadFault) => return tell(notes, Fault::ReadFault),

@@ -1,27 +1,38 @@
 ghost use Rattle.std.specs.Prelude.{◌≡◌, ◌<◌, ◌^◌, IfOk, Ok, IsOk};
+ghost use Rattle.std.specs.List.{All};
 ghost use Rattle.bast_schema.specs.Made.{node_of};
 ghost use Rattle.bast_schema.specs.Tree.{listed, none};
 ghost use Rattle.bast_schema.specs.View.{datum, data_of};
-ghost use Rattle.binast_run.specs.SourceTree.{empty_scope, literal, source_tree, statement};
+ghost use Rattle.binast_run.specs.SourceTree.{empty_scope, literal, source_tree, statement, statements};
 
 use bast_base::Memory;
 use bast_schema::{Kind, Node, Value, Values};
 use std::alloc::Global;
 
 // The tree of a first source.
-pub(crate) fn source_tree_of(alloc: Global, whole: u64) -> Result<Node, Memory>
-    requires { whole < 2 ^ 53 }
-    ensures { IfOk result (λ t. t ≡ source_tree whole) }
+pub(crate) fn source_tree_of(alloc: Global, wholes: &[u64]) -> Result<Node, Memory>
+    requires { All (λ n. n < 2 ^ 53) wholes.now }
+    ensures { IfOk result (λ t. t ≡ source_tree wholes.now) }
 {
     let scope = empty_scope_of(alloc)?;
-    let statement = statement_of(alloc, whole)?;
-    let statements = vec![in alloc; Value::Node(statement)]?;
+    let statements = statements_of(alloc, wholes)?;
     let fields = vec![in alloc;
         empty_list(alloc),
         Value::Node(scope),
         Value::List(Values::of(statements)),
     ]?;
     Ok(node(Kind::Script, fields))
+}
+
+fn statements_of(alloc: Global, wholes: &[u64]) -> Result<Vec<Value>, Memory>
+    requires { All (λ n. n < 2 ^ 53) wholes.now }
+    ensures { IfOk result (λ v. data_of v.items ≡ statements wholes.now) }
+{
+    let mut statements = Vec::with_capacity(alloc, wholes.len())?;
+    for whole in wholes {
+        statements.push(Value::Node(statement_of(alloc, *whole)?))?;
+    }
+    Ok(statements)
 }
 
 // A scope without entries.

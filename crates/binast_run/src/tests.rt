@@ -1,5 +1,5 @@
 use super::*;
-use bast_base::{Chars, MemSink, MemSource, Steps};
+use bast_base::{Chars, MemSink, MemSource, Steps, SureSink, SureSource};
 use std::alloc::{AllocError, Global};
 use std::test::Fail;
 
@@ -71,24 +71,59 @@ fn encodes_whole_numbers(rt: HostRuntime) -> Result<(), Fail> {
     Ok(())
 }
 
+// Each text with the length of its longest front that begins a first source.
 #[test]
 fn refuses_other_sources(rt: HostRuntime) -> Result<(), Fail> {
     let alloc = rt.alloc();
-    for text in [
-        "1.5;",
-        "01;",
-        "1",
-        "9007199254740992;",
-        "",
-        ";",
-        "1;;",
-        "a;",
-        " 1;",
-    ] {
-        let refused = run_whole(alloc, "encode eager", text.as_bytes())?;
-        assert_eq!(rt; refused.status, 1);
-        assert_eq!(rt; refused.notes.written(), b"source: NotYet\n".as_slice());
-        assert_eq!(rt; refused.sink.written().len(), 0);
+    let cases: [(&str, u32); 16] = [
+        ("1.5;", 1),
+        ("01;", 1),
+        ("00;", 1),
+        ("1", 1),
+        ("0", 1),
+        ("9007199254740991", 16),
+        ("9007199254740992;", 15),
+        ("90071992547409910;", 16),
+        (";", 0),
+        ("1;;", 2),
+        ("a;", 0),
+        ("1 ;", 1),
+        (" 1;\t", 3),
+        ("1; 2", 4),
+        ("1;\n\n2;x", 6),
+        ("\u{FF}", 0),
+    ];
+    for (text, at) in cases {
+        let line = format!(in alloc; "source: NotYet at {at}\n")?;
+        assert!(rt; refuses(alloc, "encode eager", text.as_bytes(), line.as_str())?);
+    }
+    Ok(())
+}
+
+// A text of nothing but blanks is an empty script.
+#[test]
+fn encodes_blanks_as_an_empty_script(rt: HostRuntime) -> Result<(), Fail> {
+    let alloc = rt.alloc();
+    for text in ["", " ", "\n", " \n \n\n"] {
+        let done = run_whole(alloc, "encode eager", text.as_bytes())?;
+        assert_eq!(rt; done.status, 0);
+        assert_eq!(rt; done.sink.written(), EMPTY);
+        assert_eq!(rt; done.notes.written().len(), 0);
+    }
+    Ok(())
+}
+
+#[test]
+fn encodes_a_statement_for_each_number(rt: HostRuntime) -> Result<(), Fail> {
+    let alloc = rt.alloc();
+    let done = run_whole(alloc, "encode eager", b"1; 2;")?;
+    let tree = b"\0\0\x02\0\0\x04\x04\x06\x3F\xF0\0\0\0\0\0\0\x04\x06\x40\0\0\0\0\0\0\0";
+    assert_eq!(rt; done.status, 0);
+    assert_eq!(rt; done.sink.written().len(), 166);
+    assert!(rt; done.sink.written().ends_with(tree));
+    for text in ["1;2;", "\n1;\n2;\n", "  1;2; "] {
+        let same = run_whole(alloc, "encode eager", text.as_bytes())?;
+        assert_eq!(rt; same.sink.written(), done.sink.written());
     }
     Ok(())
 }
@@ -117,28 +152,130 @@ fn understands_no_other_words(rt: HostRuntime) -> Result<(), Fail> {
     Ok(())
 }
 
+// A run of `encode eager` whose source and sink move so many bytes a call, and fail in these calls.
+fn encode_in_chunks(
+    alloc: Global,
+    input: &[u8],
+    chunk: usize,
+    failing_reads: Vec<u32>,
+    failing_writes: Vec<u32>,
+) -> Result<Ran, AllocError> {
+    let words = vec![in alloc;
+        Chars::of(String::from_str(alloc, "encode")?),
+        Chars::of(String::from_str(alloc, "eager")?),
+    ]?;
+    let mut source = MemSource::new(input.to_vec(alloc)?, chunk.max(1), failing_reads);
+    let mut sink = MemSink::new(vec![in alloc; 0; 400]?, chunk.max(1), failing_writes);
+    let mut notes = MemSink::new(vec![in alloc; 0; 100]?, chunk.max(1), Vec::new(alloc));
+    let mut steps = Steps::many();
+    let status = run(
+        alloc,
+        &words,
+        &mut source,
+        &mut sink,
+        &mut notes,
+        &Idle,
+        &mut steps,
+    );
+    Ok(Ran {
+        status,
+        sink,
+        notes,
+    })
+}
+
+// An input is read until a read gives nothing: each of these calls may fail, and no later one is made.
 #[test]
-fn tells_faults(rt: HostRuntime) -> Result<(), Fail> {
+fn tells_a_fault_of_each_read(rt: HostRuntime) -> Result<(), Fail> {
     let alloc = rt.alloc();
-    let unread = run_on(
-        alloc,
-        "encode eager",
-        b"1;",
-        vec![in alloc; 0]?,
-        Vec::new(alloc),
-    )?;
-    assert_eq!(rt; unread.status, 3);
-    assert_eq!(rt; unread.notes.written(), b"reading failed\n".as_slice());
-    let cut = run_on(
-        alloc,
-        "encode eager",
-        b"1;",
-        Vec::new(alloc),
-        vec![in alloc; 2]?,
-    )?;
+    let cases: [(usize, u32); 3] = [(1, 8), (3, 4), (100, 2)];
+    for (chunk, calls) in cases {
+        for call in 0..=calls {
+            let fails = vec![in alloc; call]?;
+            let ran = encode_in_chunks(alloc, b"1; 23;\n", chunk, fails, Vec::new(alloc))?;
+            if call == calls {
+                assert_eq!(rt; ran.status, 0);
+                assert_eq!(rt; ran.notes.written().len(), 0);
+            } else {
+                assert_eq!(rt; ran.status, 3);
+                assert_eq!(rt; ran.sink.written().len(), 0);
+                assert_eq!(rt; ran.notes.written(), b"reading failed\n".as_slice());
+            }
+        }
+    }
+    Ok(())
+}
+
+// An output of 101 bytes is written and then flushed: what a fault of each of these calls leaves is what stood before it.
+#[test]
+fn tells_a_fault_of_each_write_and_of_the_flush(rt: HostRuntime) -> Result<(), Fail> {
+    let alloc = rt.alloc();
+    let cases: [(usize, u32); 3] = [(1, 102), (7, 16), (200, 2)];
+    for (chunk, calls) in cases {
+        for call in 0..=calls {
+            let fails = vec![in alloc; call]?;
+            let ran = encode_in_chunks(alloc, b"", chunk, Vec::new(alloc), fails)?;
+            if call == calls {
+                assert_eq!(rt; ran.status, 0);
+                assert_eq!(rt; ran.sink.written(), EMPTY);
+                assert_eq!(rt; ran.notes.written().len(), 0);
+            } else {
+                let passed = (call as usize * chunk).min(101);
+                assert_eq!(rt; ran.status, 4);
+                assert_eq!(rt; Some(ran.sink.written()), EMPTY.get(..passed));
+                assert_eq!(rt; ran.notes.written(), b"writing failed\n".as_slice());
+            }
+        }
+    }
+    Ok(())
+}
+
+#[test]
+fn keeps_the_front_that_a_write_of_ten_bytes_passed(rt: HostRuntime) -> Result<(), Fail> {
+    let alloc = rt.alloc();
+    let fails = vec![in alloc; 2]?;
+    let cut = run_on(alloc, "encode eager", b"1;", Vec::new(alloc), fails)?;
     assert_eq!(rt; cut.status, 4);
     assert_eq!(rt; cut.sink.written().len(), 20);
     assert_eq!(rt; cut.notes.written(), b"writing failed\n".as_slice());
+    Ok(())
+}
+
+// Notes that fail change no status, and keep what they took before: five bytes a call.
+#[test]
+fn keeps_its_status_where_notes_fail(rt: HostRuntime) -> Result<(), Fail> {
+    let alloc = rt.alloc();
+    let cases: [(&str, u8, &str); 4] = [
+        ("encode", 2, "words not understood\n"),
+        ("encode eager", 3, "reading failed\n"),
+        ("check", 3, "reading failed\n"),
+        ("decode", 3, "reading failed\n"),
+    ];
+    for (words, status, line) in cases {
+        for call in 0..6u32 {
+            let mut list = Vec::new(alloc);
+            for word in words.split_ascii_whitespace() {
+                list.push(Chars::of(String::from_str(alloc, word)?))?;
+            }
+            let mut source = MemSource::new(b"1;".to_vec(alloc)?, 1, vec![in alloc; 1]?);
+            let mut sink = MemSink::new(vec![in alloc; 0; 400]?, 10, Vec::new(alloc));
+            let mut notes = MemSink::new(vec![in alloc; 0; 100]?, 5, vec![in alloc; call]?);
+            let mut steps = Steps::many();
+            let ended = run(
+                alloc,
+                &list,
+                &mut source,
+                &mut sink,
+                &mut notes,
+                &Idle,
+                &mut steps,
+            );
+            let passed = (5 * call as usize).min(line.len());
+            assert_eq!(rt; ended, status);
+            assert_eq!(rt; sink.written().len(), 0);
+            assert_eq!(rt; Some(notes.written()), line.as_bytes().get(..passed));
+        }
+    }
     Ok(())
 }
 
@@ -263,5 +400,86 @@ fn refuses_kinds_that_no_first_source_makes(rt: HostRuntime) -> Result<(), Fail>
         b"BINJS\x02[GRAMMAR]identity;\x62\x06\x0CScript\x32AssertedScriptGlobalScope\x1CEmptyStatement[STRINGS]identity;\x02\x00[TREE]identity;\x0E\x00\x00\x02\x00\x00\x02\x04";
     assert!(rt; refuses(alloc, "check", file, "file: NotYet at node 2\n")?);
     assert!(rt; refuses(alloc, "decode", file, "file: NotYet at node 2\n")?);
+    Ok(())
+}
+
+// Runs a command on an input in memory, with so much room for its output.
+fn run_large(
+    alloc: Global,
+    words: &str,
+    input: Vec<u8>,
+    room: usize,
+) -> Result<(u8, SureSink, SureSink), AllocError> {
+    let mut list = Vec::new(alloc);
+    for word in words.split_ascii_whitespace() {
+        list.push(Chars::of(String::from_str(alloc, word)?))?;
+    }
+    let mut source = SureSource::new(input);
+    let mut sink = SureSink::new(vec![in alloc; 0; room]?);
+    let mut notes = SureSink::new(vec![in alloc; 0; 100]?);
+    let status = run_in_memory(alloc, &list, &mut source, &mut sink, &mut notes, &Idle);
+    Ok((status, sink, notes))
+}
+
+fn repeated(alloc: Global, text: &[u8], times: usize) -> Result<Vec<u8>, AllocError> {
+    let mut all = Vec::new(alloc);
+    for _ in 0..times {
+        all.extend_from_slice(text)?;
+    }
+    Ok(all)
+}
+
+// The smallest file of a first source that is too large: it would have 8,388,611 bytes.
+#[test]
+fn refuses_a_file_that_is_too_large(rt: HostRuntime) -> Result<(), Fail> {
+    let alloc = rt.alloc();
+    let source = repeated(alloc, b"1;", 838_846)?;
+    let (status, sink, notes) = run_large(alloc, "encode eager", source, 100)?;
+    assert_eq!(rt; status, 1);
+    assert_eq!(rt; sink.written().len(), 0);
+    assert_eq!(rt;
+        notes.written(),
+        b"file: larger than 8388608 bytes\n".as_slice()
+    );
+    Ok(())
+}
+
+// A file of many numbers, and what its check says.
+#[test]
+fn encodes_many_numbers(rt: HostRuntime) -> Result<(), Fail> {
+    let alloc = rt.alloc();
+    let source = repeated(alloc, b"1;", 20_000)?;
+    let (status, sink, _) = run_large(alloc, "encode eager", source, 300_000)?;
+    assert_eq!(rt; status, 0);
+    assert_eq!(rt; sink.written().len(), 200_150);
+    let (status, checked, _) = run_large(alloc, "check", sink.written().to_vec(alloc)?, 100)?;
+    assert_eq!(rt; status, 0);
+    assert_eq!(rt;
+        checked.written(),
+        b"ok: 200150 bytes, 0 lazy functions\n".as_slice()
+    );
+    Ok(())
+}
+
+// An input has at most 8,388,608 bytes, whatever the command reads.
+#[test]
+fn refuses_an_input_that_is_too_large(rt: HostRuntime) -> Result<(), Fail> {
+    let alloc = rt.alloc();
+    for words in ["encode eager", "decode", "check"] {
+        let longer = vec![in alloc; b' '; 8_388_609]?;
+        let (status, sink, notes) = run_large(alloc, words, longer, 100)?;
+        assert_eq!(rt; status, 6);
+        assert_eq!(rt; sink.written().len(), 0);
+        assert_eq!(rt;
+            notes.written(),
+            b"input is larger than 8388608 bytes\n".as_slice()
+        );
+    }
+    for words in ["decode", "check"] {
+        let longest = vec![in alloc; b' '; 8_388_608]?;
+        let (status, _, notes) = run_large(alloc, words, longest, 100)?;
+        assert_eq!(rt; status, 1);
+        assert_eq!(rt; notes.written(), b"file: BadMagic at 0\n".as_slice());
+    }
     Ok(())
 }

@@ -4,6 +4,7 @@ pub mod Machine
 pub mod Moves
 pub mod Nodes
 pub mod OfTree
+pub mod OneScript
 pub mod OneTree
 pub mod Rows
 pub mod Runs

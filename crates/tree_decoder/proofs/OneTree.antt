@@ -54,7 +54,7 @@ text_there s entry e =
     let same : found.0 ≡ text_place s entry = sym (ap (λ (o : Option ℕ). unwrap_or o (length s.texts)) place) in
     ap (slice_get s.texts) (sym same) ∙ slice_get-place_in s.texts entry found.0 place
 
-one_kind : (s : Tables) (j k : Kind) → has_atom s (kind j) ≡ true → has_atom s (kind k) ≡ true → kind_place s j ≡ kind_place s k → j ≡ k
+pub one_kind : (s : Tables) (j k : Kind) → has_atom s (kind j) ≡ true → has_atom s (kind k) ≡ true → kind_place s j ≡ kind_place s k → j ≡ k
 one_kind s j k p q same = let both : Some j ≡ Some k = sym (kind_there s j p) ∙ ap (slice_get s.kinds) same ∙ kind_there s k q in cc
 
 one_text : (s : Tables) (a b : Option (List ℕ)) → has_atom s (text a) ≡ true → has_atom s (text b) ≡ true → text_place s a ≡ text_place s b → a ≡ b
@@ -62,24 +62,24 @@ one_text s a b p q same = let both : Some a ≡ Some b = sym (text_there s a p) 
 
 -- ---- values with no parts
 
-flags_same : (v u : Datum) (s : Tables) (h g : Held) (x y : List ℕ) → fits field.Bool v ≡ true → fits field.Bool u ≡ true → spelled_at s h field.Bool v ++ x ≡ spelled_at s g field.Bool u ++ y → Same (atoms_of h field.Bool v) (atoms_of g field.Bool u) x y
+pub flags_same : (v u : Datum) (s : Tables) (h g : Held) (x y : List ℕ) → fits field.Bool v ≡ true → fits field.Bool u ≡ true → spelled_at s h field.Bool v ++ x ≡ spelled_at s g field.Bool u ++ y → Same (atoms_of h field.Bool v) (atoms_of g field.Bool u) x y
 flags_same (flag true) (flag true) s h g x y p q e = record { atoms = refl; rest = cc }
 flags_same (flag false) (flag false) s h g x y p q e = record { atoms = refl; rest = cc }
 flags_same (flag true) (flag false) s h g x y p q e = absurd cc
 flags_same (flag false) (flag true) s h g x y p q e = absurd cc
 flags_same _ _ s h g x y p q e = absurd cc
 
-indexes_same : (v u : Datum) (s : Tables) (h g : Held) (x y : List ℕ) → fits field.Index v ≡ true → fits field.Index u ≡ true → spelled_at s h field.Index v ++ x ≡ spelled_at s g field.Index u ++ y → Same (atoms_of h field.Index v) (atoms_of g field.Index u) x y
+pub indexes_same : (v u : Datum) (s : Tables) (h g : Held) (x y : List ℕ) → fits field.Index v ≡ true → fits field.Index u ≡ true → spelled_at s h field.Index v ++ x ≡ spelled_at s g field.Index u ++ y → Same (atoms_of h field.Index v) (atoms_of g field.Index u) x y
 indexes_same (index n) (index m) s h g x y p q e = let r = varnum-prefix_free n m x y e in record { atoms = ap (λ (k : ℕ). atom.index k ∷ []) r.0; rest = r.1 }
 indexes_same _ _ s h g x y p q e = absurd cc
 
-parts_same : (a b x y : List ℕ) → length a ≡ length b → a ++ x ≡ b ++ y → (a ≡ b) × (x ≡ y)
+pub parts_same : (a b x y : List ℕ) → length a ≡ length b → a ++ x ≡ b ++ y → (a ≡ b) × (x ≡ y)
 parts_same a b x y long e = (
   sym (take_at a x (length a) refl) ∙ ap (take (length a)) e ∙ take_at b y (length a) (sym long),
   sym (drop_at a x (length a) refl) ∙ ap (drop (length a)) e ∙ drop_at b y (length a) (sym long),
 )
 
-wholes_same : (v u : Datum) (s : Tables) (h g : Held) (x y : List ℕ) → fits field.Whole v ≡ true → fits field.Whole u ≡ true → spelled_at s h field.Whole v ++ x ≡ spelled_at s g field.Whole u ++ y → Same (atoms_of h field.Whole v) (atoms_of g field.Whole u) x y
+pub wholes_same : (v u : Datum) (s : Tables) (h g : Held) (x y : List ℕ) → fits field.Whole v ≡ true → fits field.Whole u ≡ true → spelled_at s h field.Whole v ++ x ≡ spelled_at s g field.Whole u ++ y → Same (atoms_of h field.Whole v) (atoms_of g field.Whole u) x y
 wholes_same (whole n) (whole m) s h g x y p q e =
     let n_less : n < 2 ^ 53 = ltb-true _ _ p in
     let m_less : m < 2 ^ 53 = ltb-true _ _ q in
@@ -89,7 +89,7 @@ wholes_same (whole n) (whole m) s h g x y p q e =
 wholes_same _ _ s h g x y p q e = absurd cc
 
 -- a value that is told by a text
-abbrev is_told : FieldType → Bool
+abbrev pub is_told : FieldType → Bool
 is_told field.Text = true
 is_told field.Name = true
 is_told field.Label = true
@@ -109,7 +109,7 @@ told s h field.Label no_name i e = record { entry = None; bytes = refl; atoms = 
 told s h (field.Choice set) (choice c) i e = record { entry = chosen (field.Choice set) c; bytes = refl; atoms = refl }
 told s h _ _ i e = absurd cc
 
-texts_same : (s : Tables) (h g : Held) (t : FieldType) (v u : Datum) (x y : List ℕ) → is_told t ≡ true → fits t v ≡ true → fits t u ≡ true → list_all (has_atom s) (atoms_of h t v) ≡ true → list_all (has_atom s) (atoms_of g t u) ≡ true → framed t (spelled_at s h t v) ++ x ≡ framed t (spelled_at s g t u) ++ y → Same (atoms_of h t v) (atoms_of g t u) x y
+pub texts_same : (s : Tables) (h g : Held) (t : FieldType) (v u : Datum) (x y : List ℕ) → is_told t ≡ true → fits t v ≡ true → fits t u ≡ true → list_all (has_atom s) (atoms_of h t v) ≡ true → list_all (has_atom s) (atoms_of g t u) ≡ true → framed t (spelled_at s h t v) ++ x ≡ framed t (spelled_at s g t u) ++ y → Same (atoms_of h t v) (atoms_of g t u) x y
 texts_same s h g t v u x y i p q hv hu e =
     let a = told s h t v i p in
     let b = told s g t u i q in
@@ -172,19 +172,19 @@ no_fields s h g none x y f e = record { atoms = refl; rest = e }
 no_fields s h g (more e es) x y f is = absurd cc
 
 -- the bytes of two windows
-windows_apart : (a b x y : List ℕ) → (varnum (length a) ++ a) ++ x ≡ (varnum (length b) ++ b) ++ y → (a ≡ b) × (x ≡ y)
+pub windows_apart : (a b x y : List ℕ) → (varnum (length a) ++ a) ++ x ≡ (varnum (length b) ++ b) ++ y → (a ≡ b) × (x ≡ y)
 windows_apart a b x y e =
     let apart : varnum (length a) ++ (a ++ x) ≡ varnum (length b) ++ (b ++ y) = sym (append_assoc (varnum (length a)) a x) ∙ e ∙ append_assoc (varnum (length b)) b y in
     let r = varnum-prefix_free (length a) (length b) (a ++ x) (b ++ y) apart in
     parts_same a b x y r.0 r.1
 
-record Listing (u : Union) (holes : Bool) (v : Datum) : Type 0 where
+pub record Listing (u : Union) (holes : Bool) (v : Datum) : Type 0 where
   pub values : Data
   pub is : v ≡ listed values
   pub fit : items_fit u holes values ≡ true
   pub whole : is_whole_at v ≡ true → is_whole_in values ≡ true
 
-listing : (u : Union) (holes filled : Bool) (v : Datum) → fits (field.List u holes filled) v ≡ true → Listing u holes v
+pub listing : (u : Union) (holes filled : Bool) (v : Datum) → fits (field.List u holes filled) v ≡ true → Listing u holes v
 listing u holes filled (listed ds) e = record { values = ds; is = refl; fit = and_second (not filled || not (is_none ds)) (items_fit u holes ds) e; whole = λ w. w }
 listing u holes filled _ e = absurd cc
 

@@ -1,5 +1,5 @@
 ghost use Rattle.tree_decoder.specs.Left.{AreDue, AreOfTree};
-ghost use Rattle.tree_decoder.specs.OneTree.{IsOneTree};
+ghost use Rattle.tree_decoder.specs.OneTree.{IsOneTree, ScriptsAreOne};
 ghost use Rattle.tree_decoder.specs.Row.{IsFirstBehindRow};
 
 /// The atoms of each well-typed value whose lazy contents are windows are due one after another where the value is due,
@@ -24,4 +24,10 @@ pub fn one_tree_is_spelled()
 /// each spelled at its place and of the type that is due there. It does nothing: its clause is the law.
 pub fn fault_is_first_behind_row()
     ensures { IsFirstBehindRow }
+{}
+
+/// Where no text stands twice, the script that is read at a place is the only one, with its windows. It does nothing: its
+/// clause is the law.
+pub fn scripts_are_one()
+    ensures { ScriptsAreOne }
 {}

@@ -11,6 +11,7 @@ mod tests;
 
 pub use laws::{
     atoms_are_due, fault_is_first_behind_row, one_tree_is_spelled, only_trees_leave_nothing_due,
+    scripts_are_one,
 };
 pub use outer::read_outer;
 pub use reading::read_tree;

@@ -1,0 +1,12 @@
+pub mod Cursors
+pub mod Digits
+pub mod MarkTrees
+pub mod Turns
+pub mod Passing
+pub mod Spans
+pub mod Cuts
+pub mod HeadMarks
+pub mod Raw
+pub mod Whole
+pub mod OneCut
+pub mod Longest
