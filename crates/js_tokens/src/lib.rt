@@ -1,6 +1,19 @@
 //! Cuts a text of JavaScript into tokens (ECMA-262, 6th edition, section 11).
 #![tactic(auto)]
 
+mod braces;
+mod classes;
+mod cursor;
+mod escapes;
+mod heads;
 mod kinds;
+mod marks;
+mod numbers;
+mod scan;
+mod strings;
+mod token_list;
+mod words;
 
 pub use kinds::{Mark, Piece, Token, TokenFault, TokenKind, Word};
+pub use token_list::tokens;
+pub use words::is_reserved;
