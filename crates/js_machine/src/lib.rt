@@ -1,8 +1,17 @@
 //! The machine that derives a script from its tokens by the rows of the grammar, or stops at a token.
 #![tactic(auto)]
 
+mod derivation;
 mod events;
+mod kinds;
+mod left;
+mod lookahead;
+mod machine;
 mod stops;
 
+pub use derivation::derive;
 pub use events::{Event, Frame};
+pub use kinds::Kind;
+pub use lookahead::Lookahead;
+pub use machine::{Machine, Move};
 pub use stops::{Left, Refusal, Stop};

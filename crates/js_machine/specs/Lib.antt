@@ -1,0 +1,4 @@
+pub mod Keeper
+pub mod Left
+pub mod Lookahead
+pub mod Machine
