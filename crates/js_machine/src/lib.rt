@@ -4,6 +4,7 @@
 mod derivation;
 mod events;
 mod kinds;
+mod laws;
 mod left;
 mod lookahead;
 mod machine;
@@ -12,6 +13,7 @@ mod stops;
 pub use derivation::derive;
 pub use events::{Event, Frame};
 pub use kinds::Kind;
+pub use laws::{accepted_is_derived, runs_have_one_end};
 pub use lookahead::Lookahead;
 pub use machine::{Machine, Move};
 pub use stops::{Left, Refusal, Stop};
