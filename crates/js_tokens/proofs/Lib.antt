@@ -6,3 +6,7 @@ pub mod Passing
 pub mod Spans
 pub mod Cuts
 pub mod HeadMarks
+pub mod Raw
+pub mod Whole
+pub mod OneCut
+pub mod Longest

@@ -12,3 +12,6 @@ pub mod Span
 pub mod Cut
 pub mod Heads
 pub mod Tokens
+pub mod Values
+pub mod Spelled
+pub mod Laws

@@ -1,8 +1,9 @@
 //! A place in a text.
 
-ghost use Rattle.std.specs.Prelude.{◌≡◌, ◌+◌, ◌-◌, ◌^◌, ◌<◌, ◌≤◌, [], ◌∷◌, ◌++◌, length, MatchOption};
-ghost use Rattle.std.specs.Str.{chars};
+ghost use Rattle.std.specs.Prelude.{◌≡◌, ◌+◌, ◌-◌, ◌^◌, ◌<◌, ◌≤◌, [], ◌∷◌, ◌++◌, length, drop, MatchOption};
+ghost use Rattle.std.specs.Str.{chars, IsCharBoundary};
 ghost use Rattle.std.specs.Char.{len_utf8};
+ghost use Rattle.js_tokens.specs.Spelled.{between_two};
 ghost use Rattle.js_tokens.specs.Place.{Place, first_char, first_is, second_char, second_is, eaten, after_eating};
 
 use std::marker::Model;
@@ -27,6 +28,17 @@ impl<'a> Model for Cursor<'a> {
     ghost invariant = { λ c. IsUtf8 c.rest.now × (c.at + length c.rest.now + 4 * length (last_of c.last) ≤ 2 ^ 31) };
 }
 
+/// The first character of a text, and the text behind it.
+pub(crate) fn split_first(text: &str) -> Option<(char, &str)>
+    ensures { MatchOption result (chars text.now ≡ []) (λ x. (chars text.now ≡ x.0 ∷ chars x.1.now) × (length x.1.now < length text.now)) }
+{
+    let mut chars = text.chars();
+    match chars.next() {
+        Some(c) => Some((c, chars.as_str())),
+        None => None,
+    }
+}
+
 impl<'a> Cursor<'a> {
     /// At the start of a text.
     pub(crate) fn new(text: &'a str) -> Cursor<'a>
@@ -40,21 +52,36 @@ impl<'a> Cursor<'a> {
         }
     }
 
-    /// At the start of a text that one more character follows.
-    pub(crate) fn followed(text: &'a str, last: char) -> Cursor<'a>
-        requires { length text.now < 2 ^ 31 - 3 }
-        ensures { result ≡ record { chars = chars text.now ++ last ∷ []; at = 0 } }
+    /// At a place of a text.
+    pub(crate) fn from(text: &'a str, at: u32) -> Cursor<'a>
+        requires small { length text.now ≤ 2 ^ 31 }
+        requires place { IsCharBoundary text.now at }
+        ensures { result ≡ record { chars = chars (drop at text.now); at = at } }
+    {
+        Cursor {
+            rest: &text[at as usize..],
+            last: None,
+            at,
+        }
+    }
+
+    /// Behind the first of two delimiters, between which a text stands.
+    pub(crate) fn between_two(text: &'a str, delimiter: char) -> Cursor<'a>
+        requires short { length text.now < 2 ^ 31 - 8 }
+        requires ascii { delimiter < 128 }
+        ensures { result ≡ between_two delimiter text.now }
     {
         Cursor {
             rest: text,
-            last: Some(last),
-            at: 0,
+            last: Some(delimiter),
+            at: 1,
         }
     }
 
     /// How many bytes come before what is left.
     pub(crate) fn at(&self) -> u32
-        ensures { result ≡ self.now.at }
+        ensures value { result ≡ self.now.at }
+        ensures small { result ≤ 2 ^ 31 }
     {
         self.at
     }

@@ -2,9 +2,11 @@
 
 ghost use Rattle.std.specs.Prelude.{◌≡◌, is_some, map};
 ghost use Rattle.std.specs.Str.{chars};
-ghost use Rattle.js_tokens.specs.Words.{word_named, word_among, kind_of_name, is_name};
+ghost use Rattle.js_tokens.specs.Words.{word_named, word_among, kind_of_name, is_name, each};
+ghost use Rattle.js_tokens.specs.Classes.{is_part};
 
 use crate::classes::{is_part, is_start};
+use crate::cursor::split_first;
 use crate::kinds::{TokenKind, Word};
 
 static WORDS: [(&str, Word); 38] = [
@@ -82,4 +84,28 @@ pub fn is_reserved(text: &str) -> bool
     ensures { result ≡ is_some (word_named text.now) }
 {
     word_named(text).is_some()
+}
+
+/// Whether a text is an identifier name (ECMA-262, 6th edition, 11.6).
+pub fn is_identifier_name(text: &str) -> bool
+    ensures { result ≡ is_name (chars text.now) }
+{
+    match split_first(text) {
+        Some((first, rest)) => is_start(first) && is_rest(rest),
+        None => false,
+    }
+}
+
+// Whether a name goes on with each character.
+fn is_rest(text: &str) -> bool
+    ensures { result ≡ each is_part (chars text.now) }
+{
+    let mut rest = text;
+    while let Some((c, behind)) = split_first(rest) {
+        if !is_part(c) {
+            return false;
+        }
+        rest = behind;
+    }
+    true
 }

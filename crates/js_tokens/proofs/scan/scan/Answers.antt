@@ -13,5 +13,5 @@ token_next inside cs at c q start e f g space newline begins =
 pub returns-else-is_start-clause-value : goal.returns-else-is_start-clause-value
 returns-else-is_start-clause-value c =
     subst (λ w. Gives c.token.result c.token.new.cursor w)
-    (token_next c.args.inside c.args.cursor.now.chars c.args.cursor.now.at c.in-Some.c c.next.new.self c.at-at.result c.in-Some.ensures.cases.0 c.in-Some.ensures.cases.1 c.at-at.ensures c.if-is_space.ensures c.if-is_newline.ensures c.if-is_start.ensures)
+    (token_next c.args.inside c.args.cursor.now.chars c.args.cursor.now.at c.in-Some.c c.next.new.self c.at-at.result c.in-Some.ensures.cases.0 c.in-Some.ensures.cases.1 c.at-at.ensures.value c.if-is_space.ensures c.if-is_newline.ensures c.if-is_start.ensures)
     c.token.ensures.value
