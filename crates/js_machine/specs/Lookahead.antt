@@ -1,6 +1,5 @@
 -- What the machine sees of a text's tokens.
-use Rattle.std.specs.Prelude.{ℕ, List, map, length, ◌≤◌}
-use Rattle.std.specs.List.{All}
+use Rattle.std.specs.Prelude.{ℕ, List, map}
 use Rattle.js_tokens.specs.declared.kinds.Token.{Token}
 use Rattle.js_grammar.specs.TokenClasses.{class_in}
 use Rattle.js_machine.specs.declared.lookahead.Lookahead.{Lookahead}
@@ -10,7 +9,3 @@ seen_in text t = record { class = class_in text t; kind = t.kind; newline_before
 
 abbrev pub seen : List ℕ → List Token → List Lookahead
 seen text ts = map (seen_in text) ts
-
--- the tokens stand in the text
-abbrev pub StandIn : List ℕ → List Token → Type 0
-StandIn text ts = All (λ t. (t.from ≤ t.to) × (t.to ≤ length text)) ts

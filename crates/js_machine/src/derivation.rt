@@ -1,7 +1,8 @@
 //! The derivation of a script.
 
 ghost use Rattle.std.specs.Prelude.{◌≤◌, ◌^◌, length, IfOk, IfErr};
-ghost use Rattle.js_machine.specs.Lookahead.{StandIn};
+ghost use Rattle.std.specs.List.{All};
+ghost use Rattle.js_tokens.specs.Values.{IsTokenOf};
 ghost use Rattle.js_machine.specs.Machine.{Ends, Accepted, Stopped};
 ghost use Rattle.js_machine.specs.Keeper.{IfStopped};
 
@@ -14,10 +15,10 @@ use std::alloc::Global;
 
 /// The steps by which a script is derived from the tokens of its text, or where the machine stops.
 ///
-/// The last token is to be the end of the text.
+/// The tokens are those that `tokens` gives for the text, of which the last is its end.
 pub fn derive(alloc: Global, text: &str, tokens: &[Token]) -> Result<Vec<Event>, Refusal>
     requires size { length text.now ≤ 2 ^ 31 }
-    requires within { StandIn text.now tokens.now }
+    requires each { All (IsTokenOf text.now) tokens.now }
     ensures accepted { IfOk result (λ events. Ends text.now tokens.now (Accepted events.items)) }
     ensures stopped { IfErr result (λ e. IfStopped e (λ p. Ends text.now tokens.now (Stopped p))) }
 {
