@@ -17,3 +17,10 @@ pub use laws::{accepted_is_derived, runs_have_one_end};
 pub use lookahead::Lookahead;
 pub use machine::{Machine, Move};
 pub use stops::{Left, Refusal, Stop};
+
+#[cfg(test)]
+mod cases;
+#[cfg(test)]
+mod row_numbers;
+#[cfg(test)]
+mod tests;
