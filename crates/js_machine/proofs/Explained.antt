@@ -133,11 +133,11 @@ row_used : (o : Option RowId) (s : Symbol) (first : Class) (from : ℕ) (t : Loo
     → Here (t.class ∷ cs) all h → row_of s t.class t.newline_before ≡ o
     → go_on (use_row o s first from t st) h g ≡ Some (Accepted all) → Explained (Want s first from ∷ st.stack) (t.class ∷ cs) st.events all
 row_used None s first from t st cs all h g here is e = stopped_not (stuck s st.before t) all e
-row_used (Some r) s first from t st cs all h g here is e = row_taken (is_too_deep r st.stack) (may_follow r first from st.taken) r t.newline_before s first from t st cs all h g here is e
+row_used (Some r) s first from t st cs all h g here is e = row_taken (is_too_deep r st.stack) (may_follow r first from st) r t.newline_before s first from t st cs all h g here is e
 
 token_used : (b : Bool) (s : Symbol) (first : Class) (from : ℕ) (t : Lookahead) (st : State) (cs : List Class) (all : List Event) (h g : State → Option Outcome)
     → Here cs all g → (b ≡ true → Explained st.stack cs (st.events ++ Took ∷ []) all → Explained (Want s first from ∷ st.stack) (t.class ∷ cs) st.events all)
-    → go_on (use_token b s t st) h g ≡ Some (Accepted all) → Explained (Want s first from ∷ st.stack) (t.class ∷ cs) st.events all
+    → go_on (use_token b s from t st) h g ≡ Some (Accepted all) → Explained (Want s first from ∷ st.stack) (t.class ∷ cs) st.events all
 token_used true s first from t st cs all h g next by e = by refl (next _ e)
 token_used false s first from t st cs all h g next by e = stopped_not (stuck s st.before t) all e
 
@@ -145,7 +145,7 @@ semicolon_used : (a b : Bool) (s : Symbol) (first : Class) (from : ℕ) (t : Loo
     → Here (t.class ∷ cs) all h → Here cs all g
     → (a ≡ true → Explained st.stack cs (st.events ++ Took ∷ []) all → Explained (Want s first from ∷ st.stack) (t.class ∷ cs) st.events all)
     → (Explained after.stack (t.class ∷ cs) after.events all → Explained (Want s first from ∷ st.stack) (t.class ∷ cs) st.events all)
-    → go_on (cond a (use_token true s t st) (cond b (Stay after) (use_token false s t st))) h g ≡ Some (Accepted all) → Explained (Want s first from ∷ st.stack) (t.class ∷ cs) st.events all
+    → go_on (cond a (use_token true s from t st) (cond b (Stay after) (use_token false s from t st))) h g ≡ Some (Accepted all) → Explained (Want s first from ∷ st.stack) (t.class ∷ cs) st.events all
 semicolon_used true b s first from t st after cs all h g here next taken counted e = taken refl (next _ e)
 semicolon_used false true s first from t st after cs all h g here next taken counted e = counted (here _ e)
 semicolon_used false false s first from t st after cs all h g here next taken counted e = stopped_not (stuck s st.before t) all e

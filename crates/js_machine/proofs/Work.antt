@@ -118,11 +118,11 @@ work_taken false false s r first from t st new lighter e = cc
 work_chosen : (o : Option RowId) (s : Symbol) (first : Class) (from : ℕ) (t : Lookahead) (st new : State) → ((r : RowId) → o ≡ Some r → is_lighter s r ≡ true)
     → use_row o s first from t st ≡ Stay new → work new.stack < work (Want s first from ∷ st.stack)
 work_chosen None s first from t st new lighter e = cc
-work_chosen (Some r) s first from t st new lighter e = work_taken (is_too_deep r st.stack) (may_follow r first from st.taken) s r first from t st new (lighter r refl) e
+work_chosen (Some r) s first from t st new lighter e = work_taken (is_too_deep r st.stack) (may_follow r first from st) s r first from t st new (lighter r refl) e
 
-work_token : (b : Bool) (s : Symbol) (t : Lookahead) (st new : State) → use_token b s t st ≡ Stay new → ⊥
-work_token true s t st new e = cc
-work_token false s t st new e = cc
+work_token : (b : Bool) (s : Symbol) (from : ℕ) (t : Lookahead) (st new : State) → use_token b s from t st ≡ Stay new → ⊥
+work_token true s from t st new e = cc
+work_token false s from t st new e = cc
 
 vanishing : (s : Symbol) → kind_of s ≡ Semicolon → vanishes s ≡ true
 vanishing symbols.Semi e = refl
@@ -133,7 +133,7 @@ vanishing_less true w f e h = omega arith
 vanishing_less false w f e h = cc
 
 work_semicolon : (a b : Bool) (s : Symbol) (first : Class) (from : ℕ) (t : Lookahead) (st after new : State) → kind_of s ≡ Semicolon → after.stack ≡ st.stack
-    → cond a (use_token true s t st) (cond b (Stay after) (use_token false s t st)) ≡ Stay new → work new.stack < work (Want s first from ∷ st.stack)
+    → cond a (use_token true s from t st) (cond b (Stay after) (use_token false s from t st)) ≡ Stay new → work new.stack < work (Want s first from ∷ st.stack)
 work_semicolon true b s first from t st after new k same e = cc
 work_semicolon false true s first from t st after new k same e =
     subst (λ n. work n.stack < work (Want s first from ∷ st.stack)) (stay_same _ _ e)
@@ -142,7 +142,7 @@ work_semicolon false false s first from t st after new k same e = cc
 
 work_kind : (k : Kind) (s : Symbol) (first : Class) (from : ℕ) (t : Lookahead) (st new : State) → kind_of s ≡ k
     → use_kind k s first from t st ≡ Stay new → work new.stack < work (Want s first from ∷ st.stack)
-work_kind (TakesToken terminal) s first from t st new k e = absurd (work_token _ s t st new e)
+work_kind (TakesToken terminal) s first from t st new k e = absurd (work_token _ s from t st new e)
 work_kind Semicolon s first from t st new k e = work_semicolon _ (counts_as_there t) s first from t st _ new k refl e
 work_kind Expands s first from t st new k e = work_chosen _ s first from t st new (row_lighter s t.class t.newline_before) e
 

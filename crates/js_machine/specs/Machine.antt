@@ -22,18 +22,20 @@ use Rattle.js_machine.specs.declared.stops.Left.{Left}
 use Rattle.js_machine.specs.declared.stops.Stop.{Stop}
 use Rattle.js_machine.specs.declared.stops.Stop.TheVariants.{Syntax, NotHere, TooDeep}
 use Rattle.js_machine.specs.declared.lookahead.Lookahead.{Lookahead}
-use Rattle.js_machine.specs.Left.{left_of}
+use Rattle.js_machine.specs.Left.{left_of, is_behind}
 use Rattle.js_machine.specs.Lookahead.{seen}
 
 -- how many end marks may stand on the stack
 abbrev pub limit : ℕ
 limit = 1024
 
--- the stack, top first, the number of tokens that were taken, the class of the last of them, and the steps so far
+-- the stack, top first, the number of tokens that were taken, the class of the last of them, how many were taken when the
+-- row was taken of which that token is, and the steps so far
 pub record State : Type 0 where
   pub stack : List Frame
   pub taken : ℕ
   pub before : Option Class
+  pub row_from : ℕ
   pub events : List Event
 
 -- what comes next at a token: the machine stays before it, takes it, or stops
@@ -63,19 +65,19 @@ kind_of _ = Expands
 
 -- what is derived from the symbol before this one is one identifier and nothing else: the row of both was taken at an
 -- identifier, and one token was taken since
-abbrev pub is_one_identifier : Class → ℕ → ℕ → Bool
-is_one_identifier first from taken = takes_class terminals.Ident first && (taken == suc from)
+abbrev pub is_one_identifier : Class → ℕ → State → Bool
+is_one_identifier first from st = takes_class terminals.Ident first && (st.taken == suc from)
 
 -- what is derived from the symbol before this one is the head of an arrow function and nothing else: the row of both was
--- taken at a head, and what begins with a head ends with its `)`
-abbrev pub is_head : Class → Bool
-is_head first = is_among first (classes.HeadParen ∷ [])
+-- taken at a head, and the last token that was taken is the `)` of a row that was taken there too
+abbrev pub is_one_head : Class → ℕ → State → Bool
+is_one_head first from st = is_among first (classes.HeadParen ∷ []) && is_behind (classes.CloseParen ∷ []) st.before && (st.row_from == from)
 
 -- `=>` stands behind an identifier or a head (14.2), and the `:` of a label behind an identifier (13.13)
-abbrev pub may_follow : RowId → Class → ℕ → ℕ → Bool
-may_follow (rows.AssignTailArrow m) first from taken = is_one_identifier first from taken || is_head first
-may_follow rows.LabelBody first from taken = is_one_identifier first from taken
-may_follow _ first from taken = true
+abbrev pub may_follow : RowId → Class → ℕ → State → Bool
+may_follow (rows.AssignTailArrow m) first from st = is_one_identifier first from st || is_one_head first from st
+may_follow rows.LabelBody first from st = is_one_identifier first from st
+may_follow _ first from st = true
 
 -- the machine stops where it is stuck
 abbrev pub stop_of : Option Left → ℕ → Stop
@@ -99,7 +101,7 @@ with_row r first st = record st {
 abbrev pub take_row : RowId → Class → ℕ → Lookahead → State → Next
 take_row r first from t rest =
     if is_too_deep r rest.stack then Halt (TooDeep t.at)
-    else if may_follow r first from rest.taken then Stay (with_row r t.class rest)
+    else if may_follow r first from rest then Stay (with_row r t.class rest)
     else Halt (Syntax t.at)
 
 abbrev pub use_row : Option RowId → Symbol → Class → ℕ → Lookahead → State → Next
@@ -107,27 +109,27 @@ use_row None s first from t rest = Halt (stuck s rest.before t)
 use_row (Some r) s first from t rest = take_row r first from t rest
 
 -- the token is taken
-abbrev pub with_token : Class → State → State
-with_token class st = record st { taken = suc st.taken; before = Some class; events = st.events ++ Took ∷ [] }
+abbrev pub with_token : Class → ℕ → State → State
+with_token class from st = record st { taken = suc st.taken; before = Some class; row_from = from; events = st.events ++ Took ∷ [] }
 
-abbrev pub use_token : Bool → Symbol → Lookahead → State → Next
-use_token true s t rest = Take (with_token t.class rest)
-use_token false s t rest = Halt (stuck s rest.before t)
+abbrev pub use_token : Bool → Symbol → ℕ → Lookahead → State → Next
+use_token true s from t rest = Take (with_token t.class from rest)
+use_token false s from t rest = Halt (stuck s rest.before t)
 
 -- a semicolon counts as there before a `}` and the end, and behind a newline (11.9.1)
 abbrev pub counts_as_there : Lookahead → Bool
 counts_as_there t = t.newline_before || is_among t.class (classes.CloseBrace ∷ classes.End ∷ [])
 
-abbrev pub use_semicolon : Symbol → Lookahead → State → Next
-use_semicolon s t rest =
-    if is_among t.class (classes.Semicolon ∷ []) then use_token true s t rest
+abbrev pub use_semicolon : Symbol → ℕ → Lookahead → State → Next
+use_semicolon s from t rest =
+    if is_among t.class (classes.Semicolon ∷ []) then use_token true s from t rest
     else if counts_as_there t then Stay (record rest { events = rest.events ++ Inserted ∷ [] })
-    else use_token false s t rest
+    else use_token false s from t rest
 
 -- the symbol on top, which is off the stack
 abbrev pub use_kind : Kind → Symbol → Class → ℕ → Lookahead → State → Next
-use_kind (TakesToken terminal) s first from t rest = use_token (takes_class terminal t.class) s t rest
-use_kind Semicolon s first from t rest = use_semicolon s t rest
+use_kind (TakesToken terminal) s first from t rest = use_token (takes_class terminal t.class) s from t rest
+use_kind Semicolon s first from t rest = use_semicolon s from t rest
 use_kind Expands s first from t rest = use_row (row_of s t.class t.newline_before) s first from t rest
 
 abbrev pub use_symbol : Symbol → Class → ℕ → Lookahead → State → Next
@@ -164,7 +166,7 @@ run zero over (t ∷ ts) st = None
 run (suc n) over (t ∷ ts) st = go_on (act t st) (run n over (t ∷ ts)) (run n over ts)
 
 abbrev pub start : State
-start = record { stack = Want symbols.Script classes.End 0 ∷ []; taken = 0; before = None; events = [] }
+start = record { stack = Want symbols.Script classes.End 0 ∷ []; taken = 0; before = None; row_from = 0; events = [] }
 
 -- the machine's run over these tokens of a text ends so
 abbrev pub Ends : List ℕ → List Token → Outcome → Type 0

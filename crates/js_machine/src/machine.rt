@@ -1,7 +1,9 @@
 //! The machine: a stack of symbols that takes the tokens of a text, row by row.
 
-ghost use Rattle.std.specs.Prelude.{◌≡◌, ◌++◌, ◌≤◌, reverse, length, IfOk, OnOk, IfErr, Some};
-ghost use Rattle.js_machine.specs.Machine.{State, marks, act, use_symbol, use_semicolon, take_row, use_token, start, stuck, want_all, counts_as_there, is_one_identifier, may_follow, Passes, StopsAt, finish, Accepted, Stopped};
+ghost use Rattle.std.specs.Prelude.{◌≡◌, ◌++◌, ◌∷◌, [], ◌≤◌, reverse, length, IfOk, OnOk, IfErr, Some};
+ghost use Rattle.js_machine.specs.Machine.{State, marks, act, use_symbol, use_semicolon, take_row, use_token, start, stuck, want_all, counts_as_there, is_one_identifier, is_one_head, may_follow, Passes, StopsAt, finish, Accepted, Stopped};
+ghost use Rattle.js_grammar.specs.declared.class.Class.TheVariants as classes;
+ghost use Rattle.js_machine.specs.Left.{is_behind};
 ghost use Rattle.js_machine.specs.Keeper.{next_of, IfStopped};
 
 use crate::events::{Event, Frame};
@@ -28,13 +30,14 @@ pub enum Move {
 }
 
 /// The stack, its top last, the number of end marks on it, the number of tokens that were taken, the class of the last of
-/// them, and the steps so far.
+/// them, how many were taken when the row was taken of which that token is, and the steps so far.
 #[derive(Drop)]
 pub struct Machine {
     stack: Vec<Frame>,
     nest: usize,
     taken: usize,
     before: Option<Class>,
+    row_from: usize,
     events: Vec<Event>,
 }
 
@@ -45,6 +48,7 @@ impl Model for Machine {
       stack = reverse m.stack.items;
       taken = m.taken;
       before = m.before;
+      row_from = m.row_from;
       events = m.events.items;
     } };
 
@@ -67,6 +71,7 @@ impl Machine {
             nest: 0,
             taken: 0,
             before: None,
+            row_from: 0,
             events: Vec::new(alloc),
         })
     }
@@ -95,6 +100,7 @@ impl Machine {
             nest: _,
             taken: _,
             before: _,
+            row_from: _,
             events,
         } = self;
         if stack.is_empty() {
@@ -134,8 +140,10 @@ impl Machine {
         ensures { IfOk result (λ m. next_of m self.new ≡ use_symbol symbol first from token self.old) }
     {
         match kind_of(symbol) {
-            Kind::Terminal(terminal) => self.use_token(takes(terminal, token.class), symbol, token),
-            Kind::Semicolon => self.use_semicolon(symbol, token),
+            Kind::Terminal(terminal) => {
+                self.use_token(takes(terminal, token.class), symbol, from, token)
+            }
+            Kind::Semicolon => self.use_semicolon(symbol, from, token),
             Kind::Expands => match row(symbol, token.class, token.newline_before) {
                 None => Ok(Move::Stops(stuck(symbol, self.before, token))),
                 Some(row) => self.take_row(row, first, from, token),
@@ -143,8 +151,14 @@ impl Machine {
         }
     }
 
-    fn use_token(&mut self, taken: bool, symbol: Symbol, token: Lookahead) -> Result<Move, Memory>
-        ensures { IfOk result (λ m. next_of m self.new ≡ use_token taken symbol token self.old) }
+    fn use_token(
+        &mut self,
+        taken: bool,
+        symbol: Symbol,
+        from: usize,
+        token: Lookahead,
+    ) -> Result<Move, Memory>
+        ensures { IfOk result (λ m. next_of m self.new ≡ use_token taken symbol from token self.old) }
     {
         if !taken {
             return Ok(Move::Stops(stuck(symbol, self.before, token)));
@@ -152,19 +166,25 @@ impl Machine {
         self.events.push(Event::Took)?;
         self.taken += 1;
         self.before = Some(token.class);
+        self.row_from = from;
         Ok(Move::Takes)
     }
 
-    fn use_semicolon(&mut self, symbol: Symbol, token: Lookahead) -> Result<Move, Memory>
-        ensures { IfOk result (λ m. next_of m self.new ≡ use_semicolon symbol token self.old) }
+    fn use_semicolon(
+        &mut self,
+        symbol: Symbol,
+        from: usize,
+        token: Lookahead,
+    ) -> Result<Move, Memory>
+        ensures { IfOk result (λ m. next_of m self.new ≡ use_semicolon symbol from token self.old) }
     {
         if matches!(token.class, Class::Semicolon) {
-            self.use_token(true, symbol, token)
+            self.use_token(true, symbol, from, token)
         } else if counts_as_there(token) {
             self.events.push(Event::Inserted)?;
             Ok(Move::Stays)
         } else {
-            self.use_token(false, symbol, token)
+            self.use_token(false, symbol, from, token)
         }
     }
 
@@ -180,7 +200,7 @@ impl Machine {
         if marked(row) && self.nest >= LIMIT {
             return Ok(Move::Stops(Stop::TooDeep { at: token.at }));
         }
-        if !may_follow(row, first, from, self.taken) {
+        if !self.may_follow(row, first, from) {
             return Ok(Move::Stops(Stop::Syntax { at: token.at }));
         }
         if marked(row) {
@@ -190,6 +210,40 @@ impl Machine {
         push_symbols(&mut self.stack, symbols_of(row), token.class, self.taken)?;
         self.events.push(Event::Row(row))?;
         Ok(Move::Stays)
+    }
+
+    // Whether the row may follow what is derived from the symbol before it.
+    fn may_follow(&self, row: RowId, first: Class, from: usize) -> bool
+        ensures { result ≡ may_follow row first from self.now }
+    {
+        match row {
+            RowId::AssignTailArrow(_) => {
+                self.is_one_identifier(first, from) || self.is_one_head(first, from)
+            }
+            RowId::LabelBody => self.is_one_identifier(first, from),
+            _ => true,
+        }
+    }
+
+    fn is_one_identifier(&self, first: Class, from: usize) -> bool
+        ensures { result ≡ is_one_identifier first from self.now }
+    {
+        takes(Terminal::Ident, first) && self.taken > from && self.taken - from == 1
+    }
+
+    fn is_one_head(&self, first: Class, from: usize) -> bool
+        ensures { result ≡ is_one_head first from self.now }
+    {
+        matches!(first, Class::HeadParen) && self.is_behind_a_parenthesis() && self.row_from == from
+    }
+
+    fn is_behind_a_parenthesis(&self) -> bool
+        ensures { result ≡ is_behind (classes.CloseParen ∷ []) self.now.before }
+    {
+        match self.before {
+            Some(class) => matches!(class, Class::CloseParen),
+            None => false,
+        }
     }
 }
 
@@ -229,23 +283,4 @@ fn counts_as_there(token: Lookahead) -> bool
     ensures { result ≡ counts_as_there token }
 {
     token.newline_before || matches!(token.class, Class::CloseBrace | Class::End)
-}
-
-// Whether the row may follow what is derived from the symbol before it.
-fn may_follow(row: RowId, first: Class, from: usize, taken: usize) -> bool
-    ensures { result ≡ may_follow row first from taken }
-{
-    match row {
-        RowId::AssignTailArrow(_) => {
-            is_one_identifier(first, from, taken) || matches!(first, Class::HeadParen)
-        }
-        RowId::LabelBody => is_one_identifier(first, from, taken),
-        _ => true,
-    }
-}
-
-fn is_one_identifier(first: Class, from: usize, taken: usize) -> bool
-    ensures { result ≡ is_one_identifier first from taken }
-{
-    takes(Terminal::Ident, first) && taken > from && taken - from == 1
 }
