@@ -11,11 +11,8 @@ mod machine;
 mod stops;
 
 pub use derivation::derive;
-pub use events::{Event, Frame};
-pub use kinds::Kind;
+pub use events::Event;
 pub use laws::{accepted_is_derived, runs_have_one_end};
-pub use lookahead::Lookahead;
-pub use machine::{Machine, Move};
 pub use stops::{Left, Refusal, Stop};
 
 #[cfg(test)]
