@@ -1,0 +1,6 @@
+pub mod Choice
+pub mod Classes
+pub mod Derivation
+pub mod Laws
+pub mod Rows
+pub mod TokenClasses
