@@ -1,6 +1,23 @@
 //! Cuts a text of JavaScript into tokens (ECMA-262, 6th edition, section 11).
 #![tactic(auto)]
 
+mod braces;
+mod classes;
+mod cursor;
+mod escapes;
+mod heads;
 mod kinds;
+mod marks;
+mod numbers;
+mod scan;
+mod spelled;
+mod strings;
+mod token_list;
+mod values;
+mod words;
 
 pub use kinds::{Mark, Piece, Token, TokenFault, TokenKind, Word};
+pub use spelled::{directive_quote, template_spelled};
+pub use token_list::tokens;
+pub use values::{raw_text, string_value};
+pub use words::{is_identifier_name, is_reserved};

@@ -1,0 +1,9 @@
+pub mod Cursors
+pub mod Digits
+pub mod MarkTrees
+pub mod Turns
+pub mod Passing
+pub mod Spans
+pub mod Cuts
+pub mod HeadMarks
+pub mod Raw

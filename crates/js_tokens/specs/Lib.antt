@@ -1,0 +1,16 @@
+pub mod Place
+pub mod Classes
+pub mod Words
+pub mod Marks
+pub mod MarkTree
+pub mod Numbers
+pub mod Escapes
+pub mod Strings
+pub mod Scan
+pub mod Braces
+pub mod Span
+pub mod Cut
+pub mod Heads
+pub mod Tokens
+pub mod Values
+pub mod Spelled
