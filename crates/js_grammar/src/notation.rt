@@ -166,85 +166,120 @@ pub fn moded(mode: Mode) -> [Symbol; 11] {
     ]
 }
 
-/// A symbol as its name, its level and the mark of its mode.
-fn name_of(symbol: Symbol) -> (&'static str, &'static str, &'static str) {
+/// The name of a symbol, without its level and the mark of its mode.
+fn name_of(symbol: Symbol) -> &'static str {
     match symbol {
-        Symbol::Semi => ("Semi", "", ""),
-        Symbol::Take(Terminal::One(class)) => (class_name(class), "", ""),
-        Symbol::Take(Terminal::OpenParen) => ("(", "", ""),
-        Symbol::Take(Terminal::Ident) => ("Ident", "", ""),
-        Symbol::Take(Terminal::Bind) => ("Bind", "", ""),
-        Symbol::Take(Terminal::Name) => ("Name", "", ""),
-        Symbol::Take(Terminal::UnaryOperator) => ("unop", "", ""),
-        Symbol::Take(Terminal::Operator(Level::Relational, mode)) => ("op", "9", mark_of(mode)),
-        Symbol::Take(Terminal::Operator(level, _)) => ("op", number_of(level), ""),
-        Symbol::Level(level, mode) => ("L", number_of(level), mark_of(mode)),
-        Symbol::LevelTail(level, mode) => ("T", number_of(level), mark_of(mode)),
-        Symbol::Script => ("Script", "", ""),
-        Symbol::Items => ("Items", "", ""),
-        Symbol::Item => ("Item", "", ""),
-        Symbol::Lexical => ("Lexical", "", ""),
-        Symbol::Function => ("Function", "", ""),
-        Symbol::Params => ("Params", "", ""),
-        Symbol::ParamTail => ("ParamTail", "", ""),
-        Symbol::ParamNext => ("ParamNext", "", ""),
-        Symbol::Body => ("Body", "", ""),
-        Symbol::Stat => ("Stat", "", ""),
-        Symbol::Block => ("Block", "", ""),
-        Symbol::Else => ("Else", "", ""),
-        Symbol::DoEnd => ("DoEnd", "", ""),
-        Symbol::Jump => ("Jump", "", ""),
-        Symbol::Ret => ("Ret", "", ""),
-        Symbol::Throw => ("Throw", "", ""),
-        Symbol::Label => ("Label", "", ""),
-        Symbol::ForHead => ("ForHead", "", ""),
-        Symbol::ForBind => ("ForBind", "", ""),
-        Symbol::ForExpr => ("ForExpr", "", ""),
-        Symbol::ForRest => ("ForRest", "", ""),
-        Symbol::ExprOpt => ("ExprOpt", "", ""),
-        Symbol::Cases => ("Cases", "", ""),
-        Symbol::CasesD => ("CasesD", "", ""),
-        Symbol::TryRest => ("TryRest", "", ""),
-        Symbol::Fin => ("Fin", "", ""),
-        Symbol::Unary => ("Unary", "", ""),
-        Symbol::Post => ("Post", "", ""),
-        Symbol::Lhs => ("Lhs", "", ""),
-        Symbol::LhsTail => ("LhsTail", "", ""),
-        Symbol::Again => ("Again", "", ""),
-        Symbol::Access => ("Access", "", ""),
-        Symbol::New => ("New", "", ""),
-        Symbol::Callee => ("Callee", "", ""),
-        Symbol::MemberTail => ("MemberTail", "", ""),
-        Symbol::NewArgs => ("NewArgs", "", ""),
-        Symbol::Args => ("Args", "", ""),
-        Symbol::ArgMore => ("ArgMore", "", ""),
-        Symbol::Arg => ("Arg", "", ""),
-        Symbol::Primary => ("Primary", "", ""),
-        Symbol::FuncName => ("FuncName", "", ""),
-        Symbol::Elems => ("Elems", "", ""),
-        Symbol::ElemMore => ("ElemMore", "", ""),
-        Symbol::Props => ("Props", "", ""),
-        Symbol::PropMore => ("PropMore", "", ""),
-        Symbol::Prop => ("Prop", "", ""),
-        Symbol::Long => ("Long", "", ""),
-        Symbol::Short => ("Short", "", ""),
-        Symbol::GetRest => ("GetRest", "", ""),
-        Symbol::SetRest => ("SetRest", "", ""),
-        Symbol::Method => ("Method", "", ""),
-        Symbol::PropName => ("PropName", "", ""),
-        Symbol::TplRest => ("TplRest", "", ""),
-        Symbol::TplMore => ("TplMore", "", ""),
-        Symbol::Decls(mode) => ("Decls", "", mark_of(mode)),
-        Symbol::DeclTail(mode) => ("DeclTail", "", mark_of(mode)),
-        Symbol::Decl(mode) => ("Decl", "", mark_of(mode)),
-        Symbol::Init(mode) => ("Init", "", mark_of(mode)),
-        Symbol::Expr(mode) => ("Expr", "", mark_of(mode)),
-        Symbol::Comma(mode) => ("Comma", "", mark_of(mode)),
-        Symbol::Assign(mode) => ("Assign", "", mark_of(mode)),
-        Symbol::AssignTail(mode) => ("AssignTail", "", mark_of(mode)),
-        Symbol::Arrow(mode) => ("Arrow", "", mark_of(mode)),
-        Symbol::Cond(mode) => ("Cond", "", mark_of(mode)),
-        Symbol::CondTail(mode) => ("CondTail", "", mark_of(mode)),
+        Symbol::Semi => "Semi",
+        Symbol::Take(terminal) => terminal_name(terminal),
+        Symbol::Level(_, _) => "L",
+        Symbol::LevelTail(_, _) => "T",
+        Symbol::Script => "Script",
+        Symbol::Items => "Items",
+        Symbol::Item => "Item",
+        Symbol::Lexical => "Lexical",
+        Symbol::Function => "Function",
+        Symbol::Params => "Params",
+        Symbol::ParamTail => "ParamTail",
+        Symbol::ParamNext => "ParamNext",
+        Symbol::Body => "Body",
+        Symbol::Stat => "Stat",
+        Symbol::Block => "Block",
+        Symbol::Else => "Else",
+        Symbol::DoEnd => "DoEnd",
+        Symbol::Jump => "Jump",
+        Symbol::Ret => "Ret",
+        Symbol::Throw => "Throw",
+        Symbol::Label => "Label",
+        Symbol::ForHead => "ForHead",
+        Symbol::ForBind => "ForBind",
+        Symbol::ForExpr => "ForExpr",
+        Symbol::ForRest => "ForRest",
+        Symbol::ExprOpt => "ExprOpt",
+        Symbol::Cases => "Cases",
+        Symbol::CasesD => "CasesD",
+        Symbol::TryRest => "TryRest",
+        Symbol::Fin => "Fin",
+        Symbol::Unary => "Unary",
+        Symbol::Post => "Post",
+        Symbol::Lhs => "Lhs",
+        Symbol::LhsTail => "LhsTail",
+        Symbol::Again => "Again",
+        Symbol::Access => "Access",
+        Symbol::New => "New",
+        Symbol::Callee => "Callee",
+        Symbol::MemberTail => "MemberTail",
+        Symbol::NewArgs => "NewArgs",
+        Symbol::Args => "Args",
+        Symbol::ArgMore => "ArgMore",
+        Symbol::Arg => "Arg",
+        Symbol::Primary => "Primary",
+        Symbol::FuncName => "FuncName",
+        Symbol::Elems => "Elems",
+        Symbol::ElemMore => "ElemMore",
+        Symbol::Props => "Props",
+        Symbol::PropMore => "PropMore",
+        Symbol::Prop => "Prop",
+        Symbol::Long => "Long",
+        Symbol::Short => "Short",
+        Symbol::GetRest => "GetRest",
+        Symbol::SetRest => "SetRest",
+        Symbol::Method => "Method",
+        Symbol::PropName => "PropName",
+        Symbol::TplRest => "TplRest",
+        Symbol::TplMore => "TplMore",
+        Symbol::Decls(_) => "Decls",
+        Symbol::DeclTail(_) => "DeclTail",
+        Symbol::Decl(_) => "Decl",
+        Symbol::Init(_) => "Init",
+        Symbol::Expr(_) => "Expr",
+        Symbol::Comma(_) => "Comma",
+        Symbol::Assign(_) => "Assign",
+        Symbol::AssignTail(_) => "AssignTail",
+        Symbol::Arrow(_) => "Arrow",
+        Symbol::Cond(_) => "Cond",
+        Symbol::CondTail(_) => "CondTail",
+    }
+}
+
+fn terminal_name(terminal: Terminal) -> &'static str {
+    match terminal {
+        Terminal::One(class) => class_name(class),
+        Terminal::OpenParen => "(",
+        Terminal::Ident => "Ident",
+        Terminal::Bind => "Bind",
+        Terminal::Name => "Name",
+        Terminal::UnaryOperator => "unop",
+        Terminal::Operator(_, _) => "op",
+    }
+}
+
+/// The number of a symbol's level, if it has one.
+fn level_of(symbol: Symbol) -> &'static str {
+    match symbol {
+        Symbol::Take(Terminal::Operator(level, _))
+        | Symbol::Level(level, _)
+        | Symbol::LevelTail(level, _) => number_of(level),
+        _ => "",
+    }
+}
+
+/// The mark of a symbol's mode. Of operators those of the level of `in` have one.
+fn mark_of_symbol(symbol: Symbol) -> &'static str {
+    match symbol {
+        Symbol::Decls(mode)
+        | Symbol::DeclTail(mode)
+        | Symbol::Decl(mode)
+        | Symbol::Init(mode)
+        | Symbol::Expr(mode)
+        | Symbol::Comma(mode)
+        | Symbol::Assign(mode)
+        | Symbol::AssignTail(mode)
+        | Symbol::Arrow(mode)
+        | Symbol::Cond(mode)
+        | Symbol::CondTail(mode) => mark_of(mode),
+        Symbol::Level(_, mode) | Symbol::LevelTail(_, mode) => mark_of(mode),
+        Symbol::Take(Terminal::Operator(Level::Relational, mode)) => mark_of(mode),
+        _ => "",
     }
 }
 
@@ -270,7 +305,7 @@ fn number_of(level: Level) -> &'static str {
     }
 }
 
-fn class_name(class: Class) -> &'static str {
+pub fn class_name(class: Class) -> &'static str {
     match class {
         Class::End => "end",
         Class::Semicolon => ";",
@@ -345,10 +380,9 @@ fn class_name(class: Class) -> &'static str {
 }
 
 pub fn push_symbol(into: &mut String, symbol: Symbol) -> Result<(), AllocError> {
-    let (name, level, mark) = name_of(symbol);
-    into.push_str(name)?;
-    into.push_str(level)?;
-    into.push_str(mark)
+    into.push_str(name_of(symbol))?;
+    into.push_str(level_of(symbol))?;
+    into.push_str(mark_of_symbol(symbol))
 }
 
 /// The symbols of a row and its mark, or `-` where it has none.
@@ -370,11 +404,11 @@ pub fn row_text(alloc: Global, row: RowId) -> Result<String, AllocError> {
 }
 
 /// The rows that a symbol takes at any token, each once, in the order of their texts.
-fn rows_of(alloc: Global, symbol: Symbol) -> Result<Vec<String>, AllocError> {
+fn rows_of(alloc: Global, symbol: Symbol, classes: &[Class]) -> Result<Vec<String>, AllocError> {
     let mut texts: Vec<String> = Vec::new(alloc);
-    for class in CLASSES {
+    for class in classes {
         for newline in [false, true] {
-            if let Some(taken) = row(symbol, class, newline) {
+            if let Some(taken) = row(symbol, *class, newline) {
                 let text = row_text(alloc, taken)?;
                 if !texts.iter().any(|other| *other == text) {
                     texts.push(text)?;
@@ -390,7 +424,7 @@ fn rows_of(alloc: Global, symbol: Symbol) -> Result<Vec<String>, AllocError> {
 pub fn push_line(alloc: Global, into: &mut String, symbol: Symbol) -> Result<(), AllocError> {
     push_symbol(into, symbol)?;
     into.push_str(": ")?;
-    let texts = rows_of(alloc, symbol)?;
+    let texts = rows_of(alloc, symbol, &CLASSES)?;
     let mut first = true;
     for text in texts.iter() {
         if !first {
@@ -400,4 +434,29 @@ pub fn push_line(alloc: Global, into: &mut String, symbol: Symbol) -> Result<(),
         first = false;
     }
     into.push('\n')
+}
+
+/// The lines of the symbols of a mode.
+pub fn push_moded(
+    alloc: Global,
+    into: &mut String,
+    mode: Mode,
+    levels: &[Level],
+) -> Result<(), AllocError> {
+    for symbol in moded(mode) {
+        push_line(alloc, into, symbol)?;
+    }
+    for level in levels {
+        push_line(alloc, into, Symbol::Level(*level, mode))?;
+        push_line(alloc, into, Symbol::LevelTail(*level, mode))?;
+    }
+    Ok(())
+}
+
+/// The lines of these symbols.
+pub fn push_lines(alloc: Global, into: &mut String, symbols: &[Symbol]) -> Result<(), AllocError> {
+    for symbol in symbols {
+        push_line(alloc, into, *symbol)?;
+    }
+    Ok(())
 }

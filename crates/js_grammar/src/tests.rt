@@ -1,6 +1,7 @@
 use super::*;
-use crate::notation::{LEVELS, PLAIN, moded, push_line, push_symbol, row_text};
+use crate::notation::{LEVELS, PLAIN, class_name, push_lines, push_moded, row_text};
 use js_tokens::{Mark, Piece, Token, TokenKind, Word};
+use std::alloc::{AllocError, Global};
 use std::test::Fail;
 
 // The grammar in its notation, each symbol's rows in the order of their texts. `~` marks what may not hold `in`, `^` a row
@@ -124,26 +125,22 @@ static TABLE: [&str; 116] = [
     "T12~: - | op12 Unary T12~\n",
 ];
 
+fn joined(alloc: Global, lines: &[&str]) -> Result<String, AllocError> {
+    let mut text = String::new(alloc);
+    for line in lines {
+        text.push_str(line)?;
+    }
+    Ok(text)
+}
+
 #[test]
 fn rows_are_those_of_the_table(rt: HostRuntime) -> Result<(), Fail> {
     let alloc = rt.alloc();
     let mut text = String::new(alloc);
-    for symbol in PLAIN {
-        push_line(alloc, &mut text, symbol)?;
-    }
-    for mode in [Mode::WithIn, Mode::NoIn] {
-        for symbol in moded(mode) {
-            push_line(alloc, &mut text, symbol)?;
-        }
-        for level in LEVELS {
-            push_line(alloc, &mut text, Symbol::Level(level, mode))?;
-            push_line(alloc, &mut text, Symbol::LevelTail(level, mode))?;
-        }
-    }
-    let mut table = String::new(alloc);
-    for line in TABLE {
-        table.push_str(line)?;
-    }
+    push_lines(alloc, &mut text, &PLAIN)?;
+    push_moded(alloc, &mut text, Mode::WithIn, &LEVELS)?;
+    push_moded(alloc, &mut text, Mode::NoIn, &LEVELS)?;
+    let table = joined(alloc, &TABLE)?;
     assert_eq!(rt; text, table);
     Ok(())
 }
@@ -196,16 +193,30 @@ static CHOICES: [(Symbol, Class, bool, &str); 24] = [
     (Symbol::Semi, Class::Semicolon, false, ""),
 ];
 
+fn is_chosen(alloc: Global, choice: &(Symbol, Class, bool, &str)) -> Result<bool, AllocError> {
+    let (symbol, class, newline, wanted) = *choice;
+    match row(symbol, class, newline) {
+        None => Ok(wanted.is_empty()),
+        Some(taken) => Ok(row_text(alloc, taken)?.as_str() == wanted),
+    }
+}
+
+fn first_other(
+    alloc: Global,
+    choices: &[(Symbol, Class, bool, &str)],
+) -> Result<Option<usize>, AllocError> {
+    for (place, choice) in choices.iter().enumerate() {
+        if !is_chosen(alloc, choice)? {
+            return Ok(Some(place));
+        }
+    }
+    Ok(None)
+}
+
 #[test]
 fn rows_are_chosen_by_the_token(rt: HostRuntime) -> Result<(), Fail> {
     let alloc = rt.alloc();
-    for (symbol, class, newline, wanted) in CHOICES {
-        let text = match row(symbol, class, newline) {
-            None => String::new(alloc),
-            Some(taken) => row_text(alloc, taken)?,
-        };
-        assert_eq!(rt; text.as_str(), wanted);
-    }
+    assert_eq!(rt; first_other(alloc, &CHOICES)?, None);
     Ok(())
 }
 
@@ -224,54 +235,59 @@ fn class_of_whole(text: &str, kind: TokenKind, head: bool) -> Class {
     class_of(text, &token)
 }
 
-#[test]
-fn tokens_have_their_classes(rt: HostRuntime) -> Result<(), Fail> {
-    let alloc = rt.alloc();
-    let cases = [
-        ("of", TokenKind::Identifier, false, "of"),
-        ("get", TokenKind::Identifier, false, "get"),
-        ("set", TokenKind::Identifier, false, "set"),
-        ("gets", TokenKind::Identifier, false, "identifier"),
-        ("o", TokenKind::Identifier, false, "identifier"),
-        ("(", TokenKind::Punctuator(Mark::OpenParen), true, "head"),
-        ("(", TokenKind::Punctuator(Mark::OpenParen), false, "("),
-        (
-            "/=",
-            TokenKind::Punctuator(Mark::SlashAssign),
-            false,
-            "compound",
-        ),
-        (
-            "/",
-            TokenKind::Punctuator(Mark::Slash),
-            false,
-            "multiplicative",
-        ),
-        ("~", TokenKind::Punctuator(Mark::Tilde), false, "complement"),
-        ("let", TokenKind::Reserved(Word::Let), false, "let"),
-        (
-            "delete",
-            TokenKind::Reserved(Word::Delete),
-            false,
-            "unaryword",
-        ),
-        (
-            "yield",
-            TokenKind::Reserved(Word::Yield),
-            false,
-            "otherword",
-        ),
-        ("12", TokenKind::Number(12), false, "number"),
-        ("'a'", TokenKind::Text, false, "string"),
-        ("`a${", TokenKind::Template(Piece::Head), false, "Head"),
-        ("}a`", TokenKind::Template(Piece::Tail), false, "Tail"),
-        ("", TokenKind::End, false, "end"),
-    ];
-    for (text, kind, head, wanted) in cases {
-        let class = class_of_whole(text, kind, head);
-        let mut name = String::new(alloc);
-        push_symbol(&mut name, Symbol::Take(Terminal::One(class)))?;
-        assert_eq!(rt; name.as_str(), wanted);
+// A token that is the whole text, and what its class is written as.
+static CLASSES_OF_TOKENS: [(&str, TokenKind, bool, &str); 18] = [
+    ("of", TokenKind::Identifier, false, "of"),
+    ("get", TokenKind::Identifier, false, "get"),
+    ("set", TokenKind::Identifier, false, "set"),
+    ("gets", TokenKind::Identifier, false, "identifier"),
+    ("o", TokenKind::Identifier, false, "identifier"),
+    ("(", TokenKind::Punctuator(Mark::OpenParen), true, "head"),
+    ("(", TokenKind::Punctuator(Mark::OpenParen), false, "("),
+    (
+        "/=",
+        TokenKind::Punctuator(Mark::SlashAssign),
+        false,
+        "compound",
+    ),
+    (
+        "/",
+        TokenKind::Punctuator(Mark::Slash),
+        false,
+        "multiplicative",
+    ),
+    ("~", TokenKind::Punctuator(Mark::Tilde), false, "complement"),
+    ("let", TokenKind::Reserved(Word::Let), false, "let"),
+    (
+        "delete",
+        TokenKind::Reserved(Word::Delete),
+        false,
+        "unaryword",
+    ),
+    (
+        "yield",
+        TokenKind::Reserved(Word::Yield),
+        false,
+        "otherword",
+    ),
+    ("12", TokenKind::Number(12), false, "number"),
+    ("'a'", TokenKind::Text, false, "string"),
+    ("`a${", TokenKind::Template(Piece::Head), false, "Head"),
+    ("}a`", TokenKind::Template(Piece::Tail), false, "Tail"),
+    ("", TokenKind::End, false, "end"),
+];
+
+fn first_misnamed(tokens: &[(&str, TokenKind, bool, &str)]) -> Option<usize> {
+    for (place, token) in tokens.iter().enumerate() {
+        let (text, kind, head, wanted) = *token;
+        if class_name(class_of_whole(text, kind, head)) != wanted {
+            return Some(place);
+        }
     }
-    Ok(())
+    None
+}
+
+#[test]
+fn tokens_have_their_classes(rt: HostRuntime) {
+    assert_eq!(rt; first_misnamed(&CLASSES_OF_TOKENS), None);
 }

@@ -7,3 +7,6 @@ pub mod Spans
 pub mod Cuts
 pub mod HeadMarks
 pub mod Raw
+pub mod Whole
+pub mod OneCut
+pub mod Longest

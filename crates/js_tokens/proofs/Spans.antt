@@ -140,3 +140,55 @@ scan_bounds [] at inside item p e = let q : p ≡ record { chars = []; at = at }
 scan_bounds (c ∷ cs) at inside item p e =
     let m : Passes cs (at + len_utf8 c) p.chars p.at = (subst (λ r. Moves cs (at + len_utf8 c) r) e (scan-moves inside c cs at)).moved in
     omega (arith, bounds m, shorter m)
+
+-- an item is passed character by character
+pub scan_passes : (cs : List ℕ) (at : ℕ) (inside : Bool) (item : Item) (p : Place) → scan_at inside cs at ≡ Ok (item, p) → Passes cs at p.chars p.at
+scan_passes [] at inside item p e = let q : p ≡ record { chars = []; at = at } = sym (ap place_of e) in subst (λ x. Passes [] at x.chars x.at) (sym q) none
+scan_passes (c ∷ cs) at inside item p e = more (subst (λ r. Moves cs (at + len_utf8 c) r) e (scan-moves inside c cs at)).moved
+
+-- where a character is left, it is not over
+abbrev NotOver : Result (Item × Place) TokenFault → Type 0
+NotOver (Ok (items.Over, p)) = ⊥
+NotOver (Ok (items.Gap b, p)) = Unit {0}
+NotOver (Ok (items.Token k, p)) = Unit {0}
+NotOver (Ok (items.Name, p)) = Unit {0}
+NotOver (Err e) = Unit {0}
+
+record Left (r : Result (Item × Place) TokenFault) : Type 0 where
+  left : NotOver r
+
+either_left : {r q : Result (Item × Place) TokenFault} (b : Bool) → Left r → Left q → Left (if b then r else q)
+either_left true h k = h
+either_left false h k = k
+
+found-left : {X : Type 0} (r : Result (X × Place) TokenFault) (k : X → TokenKind) → Left (r >>= (λ x. found (k x.0) x.1))
+found-left (Ok x) k = record { left = tt }
+found-left (Err e) k = record { left = tt }
+
+comment-left : (o : Option (Bool × Place)) (s : ℕ) → Left (comment_to o s)
+comment-left None s = record { left = tt }
+comment-left (Some x) s = record { left = tt }
+
+mark-left : (o : Option (Mark × Place)) (s : ℕ) → Left (mark_to o s)
+mark-left None s = record { left = tt }
+mark-left (Some x) s = record { left = tt }
+
+token-left : (inside : Bool) (c : ℕ) (p : Place) (s : ℕ) → Left (token_at inside c p s)
+token-left inside c p s =
+    either_left (begins_number c p.chars) (found-left (number_at c p s) kinds.Number)
+    (either_left (c == 34 || c == 39) (found-left (closing (string_at c p s)) (λ x. kinds.Text))
+    (either_left (begins_piece inside c) (found-left (closing (template_at p s)) (λ x. kinds.Template (piece c x)))
+    (either_left (c == 47 && first_is 47 p.chars) (record { left = tt })
+    (either_left (c == 47 && first_is 42 p.chars) (comment-left (comment_from false (behind_first p.chars p.at).chars (behind_first p.chars p.at).at) s)
+    (either_left (c == 92) (record { left = tt })
+    (mark-left (mark_at c p) s))))))
+
+scan-left : (inside : Bool) (c : ℕ) (cs : List ℕ) (at : ℕ) → Left (scan_at inside (c ∷ cs) at)
+scan-left inside c cs at =
+    either_left (is_space c) (record { left = tt })
+    (either_left (is_newline c) (record { left = tt })
+    (either_left (is_start c) (record { left = tt })
+    (token-left inside c (behind c cs at) at)))
+
+pub over_none : (inside : Bool) (c : ℕ) (cs : List ℕ) (at : ℕ) (p : Place) → scan_at inside (c ∷ cs) at ≡ Ok (items.Over, p) → ⊥
+over_none inside c cs at p e = (subst (λ q. Left q) e (scan-left inside c cs at)).left

@@ -14,3 +14,4 @@ pub mod Heads
 pub mod Tokens
 pub mod Values
 pub mod Spelled
+pub mod Laws

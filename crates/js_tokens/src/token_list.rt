@@ -1,7 +1,9 @@
 //! The tokens of a whole text.
 
-ghost use Rattle.std.specs.Prelude.{◌≡◌, ◌^◌, ◌≤◌, ◌++◌, ◌∷◌, [], length, IfOk, IfErr, OnOk};
-ghost use Rattle.js_tokens.specs.Tokens.{AreTokens};
+ghost use Rattle.std.specs.Prelude.{◌≡◌, ◌^◌, ◌≤◌, ◌++◌, ◌∷◌, ◌+◌, [], length, IfOk, IfErr, OnOk};
+ghost use Rattle.js_tokens.specs.Tokens.{AreTokens, AreEnded};
+ghost use Rattle.js_tokens.specs.Values.{IsTokenOf};
+ghost use Rattle.std.specs.List.{All};
 ghost use Rattle.js_tokens.specs.Cut.{CutOf, FirstFault, IfFault, token};
 
 use crate::braces::Braces;
@@ -31,6 +33,9 @@ impl From<Memory> for TokenFault {
 pub fn tokens(alloc: Global, text: &str) -> Result<Vec<Token>, TokenFault>
     requires { length text.now ≤ 2 ^ 31 }
     ensures tokens { IfOk result (λ tokens. AreTokens text.now tokens.items) }
+    ensures each { IfOk result (λ tokens. All (IsTokenOf text.now) tokens.items) }
+    ensures ended { IfOk result (λ tokens. AreEnded tokens.items) }
+    ensures few { IfOk result (λ tokens. length tokens.items ≤ length text.now + 1) }
     ensures fault { IfErr result (λ e. IfFault e (FirstFault text.now)) }
 {
     let mut tokens = cut(alloc, text)?;

@@ -1,0 +1,5 @@
+pub mod Keeper
+pub mod Laws
+pub mod Left
+pub mod Lookahead
+pub mod Machine

@@ -1,0 +1,43 @@
+//! Laws of the cut of a text. Each function does nothing: its clause is the law.
+
+ghost use Rattle.js_tokens.specs.Laws.{HasOneCut, HasOneFault, HasNotBoth, HasEither, AreTheText, IsLongestName, IsLongestMark, IsWholeNumber};
+
+/// A text has at most one list of tokens.
+pub fn text_has_one_cut()
+    ensures { HasOneCut }
+{}
+
+/// A text has at most one first fault.
+pub fn text_has_one_fault()
+    ensures { HasOneFault }
+{}
+
+/// A text with tokens has no first fault.
+pub fn text_has_not_both()
+    ensures { HasNotBoth }
+{}
+
+/// A text has tokens or a first fault.
+pub fn text_has_either()
+    ensures { HasEither }
+{}
+
+/// The tokens of a text and the gaps between them are the text.
+pub fn tokens_are_the_text()
+    ensures { AreTheText }
+{}
+
+/// No longer name begins where a name stands.
+pub fn name_is_longest()
+    ensures { IsLongestName }
+{}
+
+/// No longer punctuator begins where one stands.
+pub fn punctuator_is_longest()
+    ensures { IsLongestMark }
+{}
+
+/// What could go on with a number does not follow one.
+pub fn number_is_whole()
+    ensures { IsWholeNumber }
+{}
