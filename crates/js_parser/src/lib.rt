@@ -1,0 +1,7 @@
+//! From the text of a script to its tree, or to the refusal (ECMA-262, 6th edition, sections 11 to 15).
+#![tactic(auto)]
+
+mod leaves;
+mod source;
+
+pub use source::{SourceFault, parse};

@@ -1,0 +1,10 @@
+pub mod Finishes
+pub mod Image
+pub mod Nodes
+pub mod Operators
+pub mod Parts
+pub mod Recipes
+pub mod Results
+pub mod Runs
+pub mod Statements
+pub mod Steps
