@@ -5,3 +5,8 @@ mod leaves;
 mod source;
 
 pub use source::{SourceFault, parse};
+
+#[cfg(test)]
+mod cases;
+#[cfg(test)]
+mod tests;
