@@ -694,3 +694,74 @@ pub static REFUSED: [(&str, &str); 40] = [
     ("({ a: 1, ...b })", "Syntax 9"),
     ("`a${b", "Syntax 5"),
 ];
+
+/// A script with most of the language.
+pub static CART: [(&str, &str); 1] = [(
+    "var Cart = (function () {\n  \"use strict\";\n  const rates = { std: 20, low: 5, [`none`]: 0 };\n  let items = [], total = 0;\n  function add(name, price, ...tags) {\n    if (price < 0 || typeof price !== \"number\") throw new TypeError(`bad: ${price}`);\n    items.push({ name, price, tags, get tax() { return this.price * rates.std / 100; } });\n    total += price;\n    return items.length\n  }\n  const sum = (list, from = 0) => list.reduce((a, b) => a + b.price, from);\n  function report() {\n    var out = \"\";\n    outer: for (const it of items) {\n      for (let i = 0; i < it.tags.length; i++) {\n        switch (it.tags[i]) {\n          case \"hidden\": continue outer;\n          case \"last\": break outer;\n          default: out += it.tags[i] + \" \";\n        }\n      }\n      out += it.name + \": \" + it.price + \"\\n\"\n    }\n    try { JSON.parse(out) } catch (e) { out += \"?\" } finally { total = sum(items); }\n    do total -= 1; while (total > 1000000)\n    return out;\n  }\n  return { add, report, set limit(v) { total = v > total ? total : v }, size() { return items.length } };\n})();\nfor (var key in Cart) if (Cart.hasOwnProperty(key)) delete Cart[key]; else void 0;",
+    "Script([] ~ [VarDeclaration([VariableDeclarator(BindingIdentifier('Cart') CallExpression(EagerFunctionExpression(- ~ [Directive('use strict')] FunctionContents(~ FormalParameters([] -) ~ [LexicalDeclaration(#1 [VariableDeclarator(BindingIdentifier('rates') ObjectExpression([DataProperty(LiteralPropertyName('std') LiteralNumericExpression(20)) DataProperty(LiteralPropertyName('low') LiteralNumericExpression(5)) DataProperty(ComputedPropertyName(TemplateExpression('none' [])) LiteralNumericExpression(0))]))]) LexicalDeclaration(#0 [VariableDeclarator(BindingIdentifier('items') ArrayExpression([])) VariableDeclarator(BindingIdentifier('total') LiteralNumericExpression(0))]) EagerFunctionDeclaration(BindingIdentifier('add') [] FunctionContents(~ FormalParameters([BindingIdentifier('name') BindingIdentifier('price')] BindingIdentifier('tags')) ~ [IfStatement(BinaryExpression(#0 BinaryExpression(#9 IdentifierExpression('price') LiteralNumericExpression(0)) BinaryExpression(#8 UnaryExpression(#4 IdentifierExpression('price')) LiteralStringExpression('number'))) ThrowStatement(NewExpression(IdentifierExpression('TypeError') [TemplateExpression('bad: ' [TemplatePart(IdentifierExpression('price') '')])])) -) ExpressionStatement(CallExpression(StaticMemberExpression(IdentifierExpression('items') 'push') [ObjectExpression([ShorthandProperty(IdentifierExpression('name')) ShorthandProperty(IdentifierExpression('price')) ShorthandProperty(IdentifierExpression('tags')) EagerGetter(LiteralPropertyName('tax') [] GetterContents(~ [ReturnStatement(BinaryExpression(#21 BinaryExpression(#20 StaticMemberExpression(ThisExpression() 'price') StaticMemberExpression(IdentifierExpression('rates') 'std')) LiteralNumericExpression(100)))]))])])) ExpressionStatement(CompoundAssignmentExpression(#0 IdentifierExpression('total') IdentifierExpression('price'))) ReturnStatement(StaticMemberExpression(IdentifierExpression('items') 'length'))])) LexicalDeclaration(#1 [VariableDeclarator(BindingIdentifier('sum') EagerArrowExpressionWithExpression(~ FormalParameters([BindingIdentifier('list') BindingWithInitializer(BindingIdentifier('from') LiteralNumericExpression(0))] -) CallExpression(StaticMemberExpression(IdentifierExpression('list') 'reduce') [EagerArrowExpressionWithExpression(~ FormalParameters([BindingIdentifier('a') BindingIdentifier('b')] -) BinaryExpression(#18 IdentifierExpression('a') StaticMemberExpression(IdentifierExpression('b') 'price'))) IdentifierExpression('from')])))]) EagerFunctionDeclaration(BindingIdentifier('report') [] FunctionContents(~ FormalParameters([] -) ~ [VarDeclaration([VariableDeclarator(BindingIdentifier('out') LiteralStringExpression(''))]) LabelledStatement('outer' ForOfStatement(~ ForInOfBinding(#2 BindingIdentifier('it')) IdentifierExpression('items') Block(~ [ForStatement(~ LexicalDeclaration(#0 [VariableDeclarator(BindingIdentifier('i') LiteralNumericExpression(0))]) BinaryExpression(#9 IdentifierExpression('i') StaticMemberExpression(StaticMemberExpression(IdentifierExpression('it') 'tags') 'length')) UpdateExpression(F #0 IdentifierExpression('i')) Block(~ [SwitchStatementWithDefault(ComputedMemberExpression(StaticMemberExpression(IdentifierExpression('it') 'tags') IdentifierExpression('i')) ~ [SwitchCase(LiteralStringExpression('hidden') [ContinueStatement('outer')]) SwitchCase(LiteralStringExpression('last') [BreakStatement('outer')])] SwitchDefault([ExpressionStatement(CompoundAssignmentExpression(#0 IdentifierExpression('out') BinaryExpression(#18 ComputedMemberExpression(StaticMemberExpression(IdentifierExpression('it') 'tags') IdentifierExpression('i')) LiteralStringExpression(' '))))]) [])])) ExpressionStatement(CompoundAssignmentExpression(#0 IdentifierExpression('out') BinaryExpression(#18 BinaryExpression(#18 BinaryExpression(#18 StaticMemberExpression(IdentifierExpression('it') 'name') LiteralStringExpression(': ')) StaticMemberExpression(IdentifierExpression('it') 'price')) LiteralStringExpression('\n'))))]))) TryFinallyStatement(Block(~ [ExpressionStatement(CallExpression(StaticMemberExpression(IdentifierExpression('JSON') 'parse') [IdentifierExpression('out')]))]) CatchClause(~ BindingIdentifier('e') Block(~ [ExpressionStatement(CompoundAssignmentExpression(#0 IdentifierExpression('out') LiteralStringExpression('?')))])) Block(~ [ExpressionStatement(AssignmentExpression(IdentifierExpression('total') CallExpression(IdentifierExpression('sum') [IdentifierExpression('items')])))])) DoWhileStatement(ExpressionStatement(CompoundAssignmentExpression(#1 IdentifierExpression('total') LiteralNumericExpression(1))) BinaryExpression(#10 IdentifierExpression('total') LiteralNumericExpression(1000000))) ReturnStatement(IdentifierExpression('out'))])) ReturnStatement(ObjectExpression([ShorthandProperty(IdentifierExpression('add')) ShorthandProperty(IdentifierExpression('report')) EagerSetter(LiteralPropertyName('limit') [] SetterContents(~ BindingIdentifier('v') ~ [ExpressionStatement(AssignmentExpression(IdentifierExpression('total') ConditionalExpression(BinaryExpression(#10 IdentifierExpression('v') IdentifierExpression('total')) IdentifierExpression('total') IdentifierExpression('v'))))])) EagerMethod(LiteralPropertyName('size') [] FunctionContents(~ FormalParameters([] -) ~ [ReturnStatement(StaticMemberExpression(IdentifierExpression('items') 'length'))]))]))])) []))]) ForInStatement(~ ForInOfBinding(#0 BindingIdentifier('key')) IdentifierExpression('Cart') IfStatement(CallExpression(StaticMemberExpression(IdentifierExpression('Cart') 'hasOwnProperty') [IdentifierExpression('key')]) ExpressionStatement(UnaryExpression(#6 ComputedMemberExpression(IdentifierExpression('Cart') IdentifierExpression('key')))) ExpressionStatement(UnaryExpression(#5 LiteralNumericExpression(0)))))])",
+)];
+
+/// Newlines, heads of arrow functions and of `for`, what is left out, and what belongs to which statement.
+pub static BOUNDARIES: [(&str, &str); 31] = [
+    ("a\n=> b", "Syntax 2"),
+    ("(a, 1) => b", "Syntax 4"),
+    ("()", "Syntax 1"),
+    ("(a + b) => 1", "Syntax 3"),
+    ("b + (a) => c", "Syntax 8"),
+    ("([a]) => b", "NotHere BindingPattern 1"),
+    ("new.target", "NotHere NewTarget 3"),
+    ("(function*(){})", "NotHere Generator 9"),
+    ("x = /a/;", "NotHere Regex 4"),
+    ("for (a in b;;) c", "Syntax 11"),
+    ("for (var a = 1 in b) c", "Syntax 15"),
+    ("for (;;)", "Syntax 8"),
+    ("if (a) function f(){}", "NotHere BareFunction 7"),
+    ("class A {}", "NotHere Class 0"),
+    ("a\n`b`", "NotHere TaggedTemplate 2"),
+    ("var [a] = b;", "NotHere BindingPattern 4"),
+    ("super.a", "NotHere Super 0"),
+    ("with (a) b", "NotHere With 0"),
+    ("import a", "NotHere Module 0"),
+    ("export { a }", "NotHere Module 0"),
+    ("yield a", "NotHere Generator 0"),
+    (
+        "a\n++b",
+        "Script([] ~ [ExpressionStatement(IdentifierExpression('a')) ExpressionStatement(UpdateExpression(T #0 IdentifierExpression('b')))])",
+    ),
+    (
+        "do a; while (b) c",
+        "Script([] ~ [DoWhileStatement(ExpressionStatement(IdentifierExpression('a')) IdentifierExpression('b')) ExpressionStatement(IdentifierExpression('c'))])",
+    ),
+    (
+        "function f() { return\n1 }",
+        "Script([] ~ [EagerFunctionDeclaration(BindingIdentifier('f') [] FunctionContents(~ FormalParameters([] -) ~ [ReturnStatement(-) ExpressionStatement(LiteralNumericExpression(1))]))])",
+    ),
+    (
+        "[a] = b;",
+        "Script([] ~ [ExpressionStatement(AssignmentExpression(ArrayExpression([IdentifierExpression('a')]) IdentifierExpression('b')))])",
+    ),
+    (
+        "if (a) b",
+        "Script([] ~ [IfStatement(IdentifierExpression('a') ExpressionStatement(IdentifierExpression('b')) -)])",
+    ),
+    (
+        "if (a) if (b) c; else d",
+        "Script([] ~ [IfStatement(IdentifierExpression('a') IfStatement(IdentifierExpression('b') ExpressionStatement(IdentifierExpression('c')) ExpressionStatement(IdentifierExpression('d'))) -)])",
+    ),
+    (
+        "a: b",
+        "Script([] ~ [LabelledStatement('a' ExpressionStatement(IdentifierExpression('b')))])",
+    ),
+    (
+        "({ get a() { return 1 }, get: 2, get, get() {} })",
+        "Script([] ~ [ExpressionStatement(ObjectExpression([EagerGetter(LiteralPropertyName('a') [] GetterContents(~ [ReturnStatement(LiteralNumericExpression(1))])) DataProperty(LiteralPropertyName('get') LiteralNumericExpression(2)) ShorthandProperty(IdentifierExpression('get')) EagerMethod(LiteralPropertyName('get') [] FunctionContents(~ FormalParameters([] -) ~ []))]))])",
+    ),
+    (
+        "(a, b) => c",
+        "Script([] ~ [ExpressionStatement(EagerArrowExpressionWithExpression(~ FormalParameters([BindingIdentifier('a') BindingIdentifier('b')] -) IdentifierExpression('c')))])",
+    ),
+    (
+        "(a, b)",
+        "Script([] ~ [ExpressionStatement(SequenceExpression(IdentifierExpression('a') [IdentifierExpression('b')]))])",
+    ),
+];

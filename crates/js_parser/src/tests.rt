@@ -155,6 +155,18 @@ fn more_statements_have_their_trees(rt: HostRuntime) -> Result<(), Fail> {
 }
 
 #[test]
+fn a_script_of_many_statements_has_its_tree(rt: HostRuntime) -> Result<(), Fail> {
+    assert_eq!(rt; first_other(rt.alloc(), &cases::CART)?, None);
+    Ok(())
+}
+
+#[test]
+fn boundaries_are_where_the_grammar_has_them(rt: HostRuntime) -> Result<(), Fail> {
+    assert_eq!(rt; first_other(rt.alloc(), &cases::BOUNDARIES)?, None);
+    Ok(())
+}
+
+#[test]
 fn other_sources_are_refused(rt: HostRuntime) -> Result<(), Fail> {
     assert_eq!(rt; first_other(rt.alloc(), &cases::REFUSED)?, None);
     Ok(())
