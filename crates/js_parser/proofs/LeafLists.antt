@@ -1,8 +1,8 @@
 -- Leaves stay what they are while the table grows.
-use Rattle.std.proofs.Common.{ℕ, List, [], ◌∷◌, ◌++◌, Option, Some, None, sym, ap, ◌∙◌, append_assoc, take, length, get_or, ◌<◌, ◌+◌}
+use Rattle.std.proofs.Common.{ℕ, List, [], ◌∷◌, ◌++◌, Option, Some, None, sym, ap, ◌∙◌, append_assoc, take, drop, drop-cons, add-one, length, get_or, ◌<◌, ◌+◌, ◌≡◌}
 use Rattle.std.proofs.lemmas.List.{append-nil, take_more}
 use Rattle.bast_base.specs.declared.errors.NameId.{NameId}
-use Rattle.js_parser.specs.Leaves.{AreLeaves, Grows, IsLeafOf, Stands, raw_of, text_of}
+use Rattle.js_parser.specs.Leaves.{AreLeaves, Grows, IsLeafOf, Stands, raw_of, text_of, with_texts, with_texts_of}
 use Rattle.js_tokens.specs.declared.kinds.Token.{Token}
 use Rattle.js_tree.specs.declared.leaf.Leaf.{Leaf}
 use Rattle.string_table.proofs.Laws.{place_in-append}
@@ -43,3 +43,10 @@ pub next_leaf : (text : List ℕ) (old new : List (Option (List ℕ))) (ts : Lis
     → i < length ts → Grows old new → AreLeaves text old (take i ts) ls → IsLeafOf text new (get_or ts i d) l → AreLeaves text new (take (i + 1) ts) (ls ++ l ∷ [])
 next_leaf text old new ts i d ls l below grows are is =
     rw (take_more ts i d below) (one_more text new (take i ts) ls (get_or ts i d) l (grown_leaves text old new (take i ts) ls grows are) is)
+
+-- the texts of the tokens from a place on are those of the token there and of the tokens behind it
+pub next_table : (text : List ℕ) (old new first : List (Option (List ℕ))) (ts : List Token) (i : ℕ) (d : Token)
+    → i < length ts → new ≡ with_texts_of text old (get_or ts i d) → with_texts text old (drop i ts) ≡ with_texts text first ts → with_texts text new (drop (i + 1) ts) ≡ with_texts text first ts
+next_table text old new first ts i d below made before =
+    ap (λ es. with_texts text es (drop (i + 1) ts)) made ∙ ap (λ j. with_texts text (with_texts_of text old (get_or ts i d)) (drop j ts)) (add-one i)
+    ∙ sym (ap (with_texts text old) (drop-cons ts i d below)) ∙ before

@@ -1,1 +1,2 @@
 pub mod LeafLists
+pub mod OneAnswer

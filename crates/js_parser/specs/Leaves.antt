@@ -7,7 +7,7 @@ use Rattle.js_tokens.specs.declared.kinds.Token.{Token}
 use Rattle.js_tokens.specs.declared.kinds.TokenKind.{TokenKind}
 use Rattle.js_tokens.specs.declared.kinds.TokenKind.TheVariants as kinds
 use Rattle.js_tree.specs.declared.leaf.Leaf.{Leaf}
-use Rattle.string_table.specs.Entries.{place_in}
+use Rattle.string_table.specs.Entries.{added, place_in}
 
 -- the text of a token: of a name as it is spelled, of a number in decimal, the value of a string (11.8.4.2), the raw text of
 -- a piece of a template (11.8.6.1)
@@ -58,3 +58,17 @@ AreLeaves text entries (t ∷ ts) [] = ⊥
 -- entries were added at the end
 abbrev pub Grows : List (Option (List ℕ)) → List (Option (List ℕ)) → Type 0
 Grows old new = (added : List (Option (List ℕ))) × (new ≡ old ++ added)
+
+-- the entries with a text, where there is one
+abbrev pub with_text : List (Option (List ℕ)) → Option (List ℕ) → List (Option (List ℕ))
+with_text entries None = entries
+with_text entries (Some bytes) = added entries (Some bytes)
+
+-- the entries with the text of a token, and then with its raw text
+abbrev pub with_texts_of : List ℕ → List (Option (List ℕ)) → Token → List (Option (List ℕ))
+with_texts_of text entries t = with_text (with_text entries (text_of text t)) (raw_of text t)
+
+-- the entries with the texts of all tokens, in the order of the tokens
+abbrev pub with_texts : List ℕ → List (Option (List ℕ)) → List Token → List (Option (List ℕ))
+with_texts text entries [] = entries
+with_texts text entries (t ∷ ts) = with_texts text (with_texts_of text entries t) ts

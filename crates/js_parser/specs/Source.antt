@@ -5,7 +5,7 @@ use Rattle.js_machine.specs.Machine.{Accepted, Ends, Stopped}
 use Rattle.js_machine.specs.declared.events.Event.{Event}
 use Rattle.js_machine.specs.declared.stops.Stop.{Stop}
 use Rattle.js_machine.specs.declared.stops.Stop.TheVariants.{Syntax, NotHere, TooDeep}
-use Rattle.js_parser.specs.Leaves.{AreLeaves}
+use Rattle.js_parser.specs.Leaves.{AreLeaves, with_texts}
 use Rattle.js_parser.specs.declared.source.SourceFault.{SourceFault}
 use Rattle.js_parser.specs.declared.source.SourceFault.TheVariants as source
 use Rattle.js_tokens.specs.Cut.{FirstFault}
@@ -19,15 +19,16 @@ use Rattle.js_tree.specs.declared.fault.Fault.{Fault}
 use Rattle.js_tree.specs.declared.fault.Fault.TheVariants as faults
 use Rattle.js_tree.specs.declared.leaf.Leaf.{Leaf}
 
--- what stands for a text whose tokens the machine accepts, with the texts of its tokens in the table: the image of the
--- machine's steps, which is a tree, or why it is none
-pub record IsSource (text : List ℕ) (entries : List (Option (List ℕ))) (made : Result Tree Fault) : Type 0 where
+-- what stands for a text whose tokens the machine accepts, over a table to which the texts of its tokens were added, in
+-- their order: the image of the machine's steps, which is a tree, or why it is none
+pub record IsSource (text : List ℕ) (old new : List (Option (List ℕ))) (made : Result Tree Fault) : Type 0 where
   pub tokens : List Token
   pub events : List Event
   pub leaves : List Leaf
   pub are_tokens : AreTokens text tokens
   pub accepted : Ends text tokens (Accepted events)
-  pub are_leaves : AreLeaves text entries tokens leaves
+  pub table : new ≡ with_texts text old tokens
+  pub are_leaves : AreLeaves text new tokens leaves
   pub image : tree_of limited leaves events ≡ made
 
 -- the machine stops at the tokens of the text
@@ -47,11 +48,21 @@ fault_of (NotHere at what) = source.NotHere at what
 fault_of (TooDeep at) = source.TooDeep at
 
 -- each refusal comes where the text has it; only want of memory is free
-abbrev pub IsRefused : List ℕ → List (Option (List ℕ)) → SourceFault → Type 0
-IsRefused text entries source.Memory = Unit {0}
-IsRefused text entries (source.Token fault) = IsTokenFault text fault
-IsRefused text entries (source.Syntax at) = StopsAt text (Syntax at)
-IsRefused text entries (source.NotHere at what) = StopsAt text (NotHere at what)
-IsRefused text entries (source.TooDeep at) = StopsAt text (TooDeep at)
-IsRefused text entries source.DeepTree = IsSource text entries (Err faults.TooDeep)
-IsRefused text entries source.Broken = IsSource text entries (Err faults.Broken)
+abbrev pub IsRefused : List ℕ → List (Option (List ℕ)) → List (Option (List ℕ)) → SourceFault → Type 0
+IsRefused text old new source.Memory = Unit {0}
+IsRefused text old new (source.Token fault) = IsTokenFault text fault
+IsRefused text old new (source.Syntax at) = StopsAt text (Syntax at)
+IsRefused text old new (source.NotHere at what) = StopsAt text (NotHere at what)
+IsRefused text old new (source.TooDeep at) = StopsAt text (TooDeep at)
+IsRefused text old new source.DeepTree = IsSource text old new (Err faults.TooDeep)
+IsRefused text old new source.Broken = IsSource text old new (Err faults.Broken)
+
+-- where the text is not cut, or the machine stops, the table is left as it was
+abbrev pub LeavesTable : List (Option (List ℕ)) → List (Option (List ℕ)) → SourceFault → Type 0
+LeavesTable old new source.Memory = Unit {0}
+LeavesTable old new (source.Token fault) = new ≡ old
+LeavesTable old new (source.Syntax at) = new ≡ old
+LeavesTable old new (source.NotHere at what) = new ≡ old
+LeavesTable old new (source.TooDeep at) = new ≡ old
+LeavesTable old new source.DeepTree = Unit {0}
+LeavesTable old new source.Broken = Unit {0}

@@ -3,7 +3,7 @@
 ghost use Rattle.std.specs.Prelude.{◌≡◌, ◌+◌, ◌<◌, ◌≤◌, ◌^◌, ◌*◌, ◌-◌, decimal, length, string_bytes, IfOk, OnOk};
 ghost use Rattle.std.specs.List.{All};
 ghost use Rattle.std.specs.Option.{option_map};
-ghost use Rattle.js_parser.specs.Leaves.{AreLeaves, Grows, IsLeafOf, Stands, raw_of, text_of};
+ghost use Rattle.js_parser.specs.Leaves.{AreLeaves, Grows, IsLeafOf, Stands, raw_of, text_of, with_text, with_texts, with_texts_of};
 ghost use Rattle.js_tokens.specs.Values.{IsTokenOf};
 
 use bast_base::{Memory, NameId};
@@ -22,6 +22,7 @@ pub(crate) fn leaves_of(
     requires each { All (IsTokenOf text.now) tokens.now }
     requires room { length strings.old + 2 * length tokens.now < 2 ^ 32 - 1 }
     ensures leaves { IfOk result (λ l. AreLeaves text.now strings.new tokens.now l.items) }
+    ensures table { OnOk result (strings.new ≡ with_texts text.now strings.old tokens.now) }
     ensures grows { Grows strings.old strings.new }
 {
     let mut leaves = Vec::new(alloc);
@@ -41,6 +42,7 @@ fn leaf_of(
     requires token { IsTokenOf text.now token.now }
     requires room { length strings.old + 2 < 2 ^ 32 - 1 }
     ensures leaf { IfOk result (λ l. IsLeafOf text.now strings.new token.now l) }
+    ensures table { OnOk result (strings.new ≡ with_texts_of text.now strings.old token.now) }
     ensures grows { Grows strings.old strings.new }
     ensures few { length strings.new ≤ length strings.old + 2 }
 {
@@ -58,6 +60,7 @@ fn leaf_of(
 fn place_of(text: Option<String>, strings: &mut StringTable) -> Result<Option<NameId>, Memory>
     requires { length strings.old < 2 ^ 32 - 1 }
     ensures place { IfOk result (λ n. Stands strings.new (option_map string_bytes text) n) }
+    ensures table { OnOk result (strings.new ≡ with_text strings.old (option_map string_bytes text)) }
     ensures grows { Grows strings.old strings.new }
     ensures few { length strings.new ≤ length strings.old + 1 }
 {

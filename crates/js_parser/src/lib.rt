@@ -1,9 +1,11 @@
 //! From the text of a script to its tree, or to the refusal (ECMA-262, 6th edition, sections 11 to 15).
 #![tactic(auto)]
 
+mod laws;
 mod leaves;
 mod source;
 
+pub use laws::sources_have_one_tree;
 pub use source::{SourceFault, parse};
 
 #[cfg(test)]

@@ -3,7 +3,7 @@
 ghost use Rattle.std.specs.Prelude.{◌≡◌, ◌≤◌, ◌<◌, ◌^◌, Ok, Err, IfOk, IfErr};
 ghost use Rattle.std.specs.Prelude.{length};
 ghost use Rattle.js_parser.specs.Leaves.{Grows};
-ghost use Rattle.js_parser.specs.Source.{IsRefused, IsSource, fault_of};
+ghost use Rattle.js_parser.specs.Source.{IsRefused, IsSource, LeavesTable, fault_of};
 
 use crate::leaves::leaves_of;
 use bast_base::Memory;
@@ -37,9 +37,10 @@ pub enum SourceFault {
 pub fn parse(alloc: Global, text: &str, strings: &mut StringTable) -> Result<Node, SourceFault>
     requires size { length text.now ≤ 8388608 }
     requires room { length strings.old < 2 ^ 31 }
-    ensures tree { IfOk result (λ tree. IsSource text.now strings.new (Ok tree)) }
-    ensures refused { IfErr result (λ e. IsRefused text.now strings.new e) }
+    ensures tree { IfOk result (λ tree. IsSource text.now strings.old strings.new (Ok tree)) }
+    ensures refused { IfErr result (λ e. IsRefused text.now strings.old strings.new e) }
     ensures grows { Grows strings.old strings.new }
+    ensures unchanged { IfErr result (λ e. LeavesTable strings.old strings.new e) }
 {
     let tokens = match tokens(alloc, text) {
         Ok(tokens) => tokens,

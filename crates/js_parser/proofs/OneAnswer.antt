@@ -1,0 +1,98 @@
+-- Why a text comes to one thing alone.
+use Rattle.std.proofs.Common.{◌≡◌, ℕ, List, [], ◌∷◌, Option, Some, None, Result, refl, sym, ap, ◌∙◌, subst, length}
+use Rattle.bast_base.specs.declared.errors.NameId.{NameId}
+use Rattle.bast_schema.specs.Tree.{Tree}
+use Rattle.js_machine.specs.Lookahead.{seen}
+use Rattle.js_machine.specs.Machine.{Outcome, Accepted, Stopped, Ends, start}
+use Rattle.js_machine.specs.declared.events.Event.{Event}
+use Rattle.js_machine.specs.declared.stops.Stop.{Stop}
+use Rattle.js_machine.proofs.Ended.{one_end}
+use Rattle.js_parser.specs.Laws.{Answer, uncut, stopped, made, IsAnswer}
+use Rattle.js_parser.specs.Leaves.{AreLeaves, IsLeafOf, Stands, raw_of, text_of, with_texts}
+use Rattle.js_parser.specs.Source.{IsSource, IsTokenFault, StopsAt}
+use Rattle.js_tokens.specs.Heads.{with_heads}
+use Rattle.js_tokens.specs.Tokens.{AreTokens}
+use Rattle.js_tokens.specs.declared.kinds.Token.{Token}
+use Rattle.js_tokens.specs.declared.kinds.TokenFault.{TokenFault}
+use Rattle.js_tokens.proofs.OneCut.{one_cut, one_fault, not_both}
+use Rattle.js_tree.specs.Image.{tree_of}
+use Rattle.js_tree.specs.Nodes.{limited}
+use Rattle.js_tree.specs.declared.fault.Fault.{Fault}
+use Rattle.js_tree.specs.declared.leaf.Leaf.{Leaf}
+
+same_tokens : (text : List ℕ) (ts us : List Token) → AreTokens text ts → AreTokens text us → ts ≡ us
+same_tokens text ts us h k = h.1.1 ∙ ap with_heads (one_cut h.1.0 k.1.0) ∙ sym k.1.1
+
+same_end : (text : List ℕ) (ts us : List Token) (one other : Outcome) → us ≡ ts → Ends text ts one → Ends text us other → one ≡ other
+same_end text ts us one other same p q =
+    let r = subst (λ ts. Ends text ts other) same q in one_end p.0 r.0 (length text) (seen text ts) start one other p.1 r.1
+
+same_events : {es fs : List Event} → Accepted es ≡ Accepted fs → es ≡ fs
+same_events e = cc
+
+same_stop : {p q : Stop} → Stopped p ≡ Stopped q → p ≡ q
+same_stop e = cc
+
+not_stopped : {A : Type 0} {es : List Event} {p : Stop} → Accepted es ≡ Stopped p → A
+not_stopped e = cc
+
+same_name : (n m : NameId) → Some n.0 ≡ Some m.0 → n ≡ m
+same_name n m e = let f : n.0 ≡ m.0 = cc in ap (λ k. record { 0 = k }) f
+
+same_place : (entries : List (Option (List ℕ))) (text : Option (List ℕ)) (n m : Option NameId) → Stands entries text n → Stands entries text m → n ≡ m
+same_place entries None None None p q = refl
+same_place entries None (Some n) m p q = absurd p
+same_place entries None None (Some m) p q = absurd q
+same_place entries (Some bytes) None m p q = absurd p
+same_place entries (Some bytes) (Some n) None p q = absurd q
+same_place entries (Some bytes) (Some n) (Some m) p q = ap Some (same_name n m (sym p ∙ q))
+
+same_leaf : (text : List ℕ) (entries : List (Option (List ℕ))) (t : Token) (l m : Leaf) → IsLeafOf text entries t l → IsLeafOf text entries t m → l ≡ m
+same_leaf text entries t l m p q =
+    let k = p.kind ∙ sym q.kind
+    in let a = same_place entries (text_of text t) l.text m.text p.text_stands q.text_stands
+    in let b = same_place entries (raw_of text t) l.raw m.raw p.raw_stands q.raw_stands
+    in ap (λ k. record { kind = k; text = l.text; raw = l.raw }) k ∙ ap (λ a. record { kind = m.kind; text = a; raw = l.raw }) a ∙ ap (λ b. record { kind = m.kind; text = m.text; raw = b }) b
+
+same_leaves : (text : List ℕ) (entries : List (Option (List ℕ))) (ts : List Token) (ls ms : List Leaf) → AreLeaves text entries ts ls → AreLeaves text entries ts ms → ls ≡ ms
+same_leaves text entries [] [] [] p q = refl
+same_leaves text entries [] (l ∷ ls) ms p q = absurd p
+same_leaves text entries [] [] (m ∷ ms) p q = absurd q
+same_leaves text entries (t ∷ ts) [] ms p q = absurd p
+same_leaves text entries (t ∷ ts) (l ∷ ls) [] p q = absurd q
+same_leaves text entries (t ∷ ts) (l ∷ ls) (m ∷ ms) p q = ap (λ x. x ∷ ls) (same_leaf text entries t l m p.0 q.0) ∙ ap (λ xs. m ∷ xs) (same_leaves text entries ts ls ms p.1 q.1)
+
+pub one_tree : (text : List ℕ) (old new fresh : List (Option (List ℕ))) (one other : Result Tree Fault)
+    → IsSource text old new one → IsSource text old fresh other → (new ≡ fresh) × (one ≡ other)
+one_tree text old new fresh one other p q =
+    let ts = same_tokens text q.tokens p.tokens q.are_tokens p.are_tokens
+    in let es = same_events (same_end text p.tokens q.tokens (Accepted p.events) (Accepted q.events) ts p.accepted q.accepted)
+    in let table : new ≡ fresh = p.table ∙ ap (with_texts text old) (sym ts) ∙ sym q.table
+    in let moved = subst (λ ts. AreLeaves text new ts q.leaves) ts (subst (λ es. AreLeaves text es q.tokens q.leaves) (sym table) q.are_leaves)
+    in let ls = same_leaves text new p.tokens p.leaves q.leaves p.are_leaves moved
+    in (table, sym p.image ∙ ap (λ ls. tree_of limited ls p.events) ls ∙ ap (tree_of limited q.leaves) es ∙ q.image)
+
+cut_has_no_fault : (text : List ℕ) (ts : List Token) (fault : TokenFault) → AreTokens text ts → IsTokenFault text fault → ⊥
+cut_has_no_fault text ts fault h k = not_both h.1.0 k.first
+
+source_has_no_stop : (text : List ℕ) (old new : List (Option (List ℕ))) (tree : Result Tree Fault) (stop : Stop) → IsSource text old new tree → StopsAt text stop → ⊥
+source_has_no_stop text old new tree stop p q =
+    not_stopped (same_end text p.tokens q.tokens (Accepted p.events) (Stopped stop) (same_tokens text q.tokens p.tokens q.are_tokens p.are_tokens) p.accepted q.stopped)
+
+one_stop : (text : List ℕ) (one other : Stop) → StopsAt text one → StopsAt text other → one ≡ other
+one_stop text one other p q =
+    same_stop (same_end text p.tokens q.tokens (Stopped one) (Stopped other) (same_tokens text q.tokens p.tokens q.are_tokens p.are_tokens) p.stopped q.stopped)
+
+both_same : (new fresh : List (Option (List ℕ))) (one other : Result Tree Fault) → (new ≡ fresh) × (one ≡ other) → made new one ≡ made fresh other
+both_same new fresh one other e = ap (λ n. made n one) e.0 ∙ ap (made fresh) e.1
+
+pub one_answer : (text : List ℕ) (old : List (Option (List ℕ))) (one other : Answer) → IsAnswer text old one → IsAnswer text old other → one ≡ other
+one_answer text old (uncut f) (uncut g) p q = ap uncut (one_fault p.first q.first)
+one_answer text old (uncut f) (stopped s) p q = absurd (cut_has_no_fault text q.tokens f q.are_tokens p)
+one_answer text old (uncut f) (made new tree) p q = absurd (cut_has_no_fault text q.tokens f q.are_tokens p)
+one_answer text old (stopped s) (uncut g) p q = absurd (cut_has_no_fault text p.tokens g p.are_tokens q)
+one_answer text old (stopped s) (stopped r) p q = ap stopped (one_stop text s r p q)
+one_answer text old (stopped s) (made new tree) p q = absurd (source_has_no_stop text old new tree s q p)
+one_answer text old (made new tree) (uncut g) p q = absurd (cut_has_no_fault text p.tokens g p.are_tokens q)
+one_answer text old (made new tree) (stopped r) p q = absurd (source_has_no_stop text old new tree r p q)
+one_answer text old (made new tree) (made fresh other) p q = both_same new fresh tree other (one_tree text old new fresh tree other p q)

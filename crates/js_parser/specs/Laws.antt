@@ -1,0 +1,28 @@
+-- What a text comes to is one.
+use Rattle.std.specs.Prelude.{◌≡◌, ℕ, List, Option, Result}
+use Rattle.bast_schema.specs.Tree.{Tree}
+use Rattle.js_machine.specs.declared.stops.Stop.{Stop}
+use Rattle.js_parser.specs.Source.{IsSource, IsTokenFault, StopsAt}
+use Rattle.js_tokens.specs.declared.kinds.TokenFault.{TokenFault}
+use Rattle.js_tree.specs.declared.fault.Fault.{Fault}
+
+-- what a text comes to over a table: it is not cut into tokens, or the machine stops at one of them, or there is a new table
+-- and a tree, or the reason why the steps have none
+pub data Answer : Type 0 where
+  uncut : TokenFault → Answer
+  stopped : Stop → Answer
+  made : List (Option (List ℕ)) → Result Tree Fault → Answer
+
+abbrev pub IsAnswer : List ℕ → List (Option (List ℕ)) → Answer → Type 0
+IsAnswer text old (uncut fault) = IsTokenFault text fault
+IsAnswer text old (stopped stop) = StopsAt text stop
+IsAnswer text old (made new tree) = IsSource text old new tree
+
+-- whatever is said of a text and a table is the same: the fault or the stop, the new table, and the tree
+abbrev pub HasOneAnswer : Type 0
+HasOneAnswer = (text : List ℕ) (old : List (Option (List ℕ))) (one other : Answer) → IsAnswer text old one → IsAnswer text old other → one ≡ other
+
+-- so a source has one table and one tree
+abbrev pub HasOneTree : Type 0
+HasOneTree = (text : List ℕ) (old new fresh : List (Option (List ℕ))) (one other : Result Tree Fault)
+    → IsSource text old new one → IsSource text old fresh other → (new ≡ fresh) × (one ≡ other)

@@ -1,0 +1,9 @@
+//! Laws of the tree of a source text. Each function does nothing: its clauses are the law.
+
+ghost use Rattle.js_parser.specs.Laws.{HasOneAnswer, HasOneTree};
+
+/// A text and a table have one new table and one tree, and a text that is refused has none.
+pub fn sources_have_one_tree()
+    ensures tree { HasOneTree }
+    ensures answer { HasOneAnswer }
+{}
