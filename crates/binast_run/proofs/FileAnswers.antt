@@ -10,7 +10,8 @@ use Rattle.tree_decoder.specs.Outcome.{Outcome}
 use Rattle.tree_decoder.specs.Outer.{tree_range}
 use Rattle.tree_decoder.proofs.OneScript.{one_script}
 use Rattle.binast_run.specs.Reading.{fault_in, first_fault, IsFileOfScript}
-use Rattle.binast_run.specs.Result.{Answer, output, refusal, unless_other, AnswersFile, faulty, read}
+use Rattle.binast_run.specs.Answer.{Answer, output, refusal}
+use Rattle.binast_run.specs.Result.{unless_other, AnswersFile, faulty, read}
 
 pub faulty_answer : (bytes : List ℕ) (text : Layout → Tree → List ℕ) (f : FormatFault) (a : Answer) (line : List ℕ)
     → first_fault bytes ≡ Some f → a ≡ refusal line → line ≡ fault_line f → AnswersFile bytes text a

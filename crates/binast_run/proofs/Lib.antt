@@ -1,4 +1,4 @@
-pub mod DigitLemmas
+pub mod EagerKept
 pub mod FileAnswers
 pub mod FirstAtoms
 pub mod FirstKinds
@@ -11,8 +11,4 @@ pub mod OneTree
 pub mod OutputLemmas
 pub mod Outputs
 pub mod ReadFile
-pub mod Scan
 pub mod SourceAnswers
-pub mod SourceFile
-pub mod Statements
-pub mod Used

@@ -2,7 +2,8 @@
 use Rattle.std.proofs.Common.{◌≡◌, ℕ, List}
 use Rattle.binast_run.specs.declared.command.Command.{Command}
 use Rattle.binast_run.specs.declared.command.Command.TheVariants.{EncodeEager, Decode, Check}
-use Rattle.binast_run.specs.Result.{Answer, AnswersInput}
+use Rattle.binast_run.specs.Answer.{Answer}
+use Rattle.binast_run.specs.Result.{AnswersInput}
 use Rattle.binast_run.proofs.FileAnswers.{one_file_answer}
 use Rattle.binast_run.proofs.SourceAnswers.{one_answer}
 

@@ -3,7 +3,8 @@ use Rattle.std.proofs.Common.{◌≡◌, ℕ, ◌≤◌, List, length, Option, S
 use Rattle.bast_base.specs.Source.{TakesAll}
 use Rattle.binast_run.specs.declared.command.Command.{Command}
 use Rattle.binast_run.specs.Output.{AppendsFront}
-use Rattle.binast_run.specs.Result.{Answer, output, AnswersInput, AnswersWords, IsComplete, OutputsFront}
+use Rattle.binast_run.specs.Answer.{Answer, output}
+use Rattle.binast_run.specs.Result.{AnswersInput, AnswersWords, IsComplete, OutputsFront}
 use Rattle.binast_run.specs.Words.{command_in}
 
 answers_words : (o : Option Command) (c : Command) (input : List ℕ) (a : Answer) → o ≡ Some c → AnswersInput c input a → AnswersWords o input a

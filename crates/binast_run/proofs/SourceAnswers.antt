@@ -1,43 +1,99 @@
--- The three answers to a source.
-use Rattle.std.proofs.Common.{◌≡◌, ℕ, ◌<◌, ◌≤◌, List, length, Ok, inl, inr, refl, subst, sym, ap, ◌∙◌, arith}
-use Rattle.std.proofs.lemmas.Bool.{cases_order}
-use Rattle.binast_run.specs.File.{file, nothing}
-use Rattle.binast_run.specs.FirstSource.{IsFirstSource, IsNoFirstSource}
-use Rattle.binast_run.specs.Lines.{large_file_line, source_not_yet_line}
-use Rattle.binast_run.specs.Result.{Answer, output, refusal, most_bytes, AnswersSource, not_yet, large, encoded}
-use Rattle.binast_run.specs.SourceTree.{source_tree}
-use Rattle.binast_run.proofs.Scan.{first_source_scans}
+-- The answers to a source, and that it has one.
+use Rattle.std.proofs.Common.{◌≡◌, ℕ, List, [], Option, Some, None, Result, Ok, Err, IfOk, refl, subst, sym, ap, ◌∙◌}
+use Rattle.std.specs.Str.{IsUtf8}
+use Rattle.std.specs.Str.Lossy.{utf8_valid_len}
+use Rattle.bast_schema.specs.Tree.{Tree}
+use Rattle.binast_run.specs.Answer.{Answer as Outcome, refusal}
+use Rattle.binast_run.specs.SourceLines.{fault_text, not_utf8_text, source_line}
+use Rattle.binast_run.specs.Sources.{AnswersSource, no_text, no_tree, has_tree, tree_answer}
+use Rattle.js_parser.specs.Laws.{Answer, uncut, stopped, made, IsAnswer}
+use Rattle.js_parser.specs.Source.{IsRefused, IsSource, fault_of}
+use Rattle.js_parser.specs.declared.source.SourceFault.{SourceFault}
+use Rattle.js_parser.specs.declared.source.SourceFault.TheVariants as source
+use Rattle.js_parser.proofs.OneAnswer.{one_answer as one_of_text, one_tree}
+use Rattle.js_machine.specs.declared.stops.Stop.TheVariants.{Syntax, NotHere, TooDeep}
+use Rattle.js_tree.specs.declared.fault.Fault.{Fault}
+use Rattle.js_tree.specs.declared.fault.Fault.TheVariants as faults
+use Rattle.bast_base.specs.declared.errors.Memory.{Memory}
+use Rattle.binast_run.specs.declared.outcome.Outcome.{Outcome as Made}
+use Rattle.binast_run.specs.Outcome.{answer_in}
 
-pub not_yet_answer : (input : List ℕ) (at : ℕ) (a : Answer) (line : List ℕ) → IsNoFirstSource input at → a ≡ refusal line → line ≡ source_not_yet_line at → AnswersSource input a
-not_yet_answer input at a line is answer told = subst (λ (x : Answer). AnswersSource input x) (sym (answer ∙ ap refusal told)) (not_yet at is)
+pub text_answer : (input : List ℕ) (at : ℕ) (a : Outcome) (line : List ℕ) → (IsUtf8 input → ⊥) → at ≡ utf8_valid_len input → a ≡ refusal line → line ≡ source_line (not_utf8_text at)
+    → AnswersSource input a
+text_answer input at a line not_utf8 is answer told =
+    subst (λ (x : Outcome). AnswersSource input x) (sym (answer ∙ ap refusal (told ∙ ap (λ (n : ℕ). source_line (not_utf8_text n)) is))) (no_text not_utf8)
 
-pub large_answer : (input ns slice : List ℕ) (a : Answer) (line : List ℕ) (bytes : ℕ) → IsFirstSource ns input → slice ≡ ns → bytes ≡ length (file nothing (source_tree slice)) → most_bytes < bytes
-    → a ≡ refusal line → line ≡ large_file_line → AnswersSource input a
-large_answer input ns slice a line bytes is same counted more answer told =
-    subst (λ (x : Answer). AnswersSource input x) (sym (answer ∙ ap refusal told)) (large ns is (rw (counted, same) at more))
+fault_answer : (input text : List ℕ) (none texts : List (Option (List ℕ))) (fault : SourceFault) (a : Outcome) → text ≡ input → none ≡ [] → IsUtf8 input
+    → IsRefused text none texts fault → (fault ≡ source.Memory → ⊥) × (a ≡ refusal (source_line (fault_text fault))) → AnswersSource input a
+fault_answer input text none texts fault a same is_none is refused answer =
+    subst (λ (x : Outcome). AnswersSource input x) (sym answer.1) (no_tree fault texts is answer.0 (rw (same, is_none) at refused))
 
-pub encoded_answer : (input ns slice made : List ℕ) (bytes : ℕ) → IsFirstSource ns input → slice ≡ ns → bytes ≡ length (file nothing (source_tree slice)) → bytes ≤ most_bytes
-    → made ≡ file nothing (source_tree slice) → AnswersSource input (output made)
-encoded_answer input ns slice made bytes is same counted few made_is =
-    subst (λ (x : List ℕ). AnswersSource input (output x)) (sym (rw same at made_is)) (encoded ns is (rw (counted, same) at few))
+made_answer : (input text : List ℕ) (none texts : List (Option (List ℕ))) (t : Tree) (a : Outcome) → text ≡ input → none ≡ [] → IsUtf8 input → IsSource text none texts (Ok t)
+    → a ≡ tree_answer texts t → AnswersSource input a
+made_answer input text none texts t a same is_none is source answer =
+    subst (λ (x : Outcome). AnswersSource input x) (sym answer) (has_tree texts t is (rw (same, is_none) at source))
 
--- a source has one answer
-one_source : (ns ms text : List ℕ) → IsFirstSource ns text → IsFirstSource ms text → ns ≡ ms
-one_source ns ms text p q = let same : Ok ns ≡ Ok ms = sym (first_source_scans ns text p) ∙ first_source_scans ms text q in cc
+-- what was made of the tree of a text answers the source, where memory did not run out
+pub made_answers : (input text : List ℕ) (none texts : List (Option (List ℕ))) (t : Tree) (r : Result Made Memory) → text ≡ input → none ≡ [] → IsUtf8 input → IsSource text none texts (Ok t)
+    → IfOk r (λ outcome. answer_in outcome ≡ tree_answer texts t) → IfOk r (λ outcome. AnswersSource input (answer_in outcome))
+made_answers input text none texts t (Ok outcome) same is_none is source answer = made_answer input text none texts t (answer_in outcome) same is_none is source answer
+made_answers input text none texts t (Err e) same is_none is source answer = tt
 
-one_place : (text : List ℕ) (at to : ℕ) → IsNoFirstSource text at → IsNoFirstSource text to → at ≡ to
-one_place text at to p q = elim (cases_order at to) [
-  | inl same ↦ same
-  | inr other ↦ elim other [ inl less ↦ absurd (p.longest to less q.within q.begins) | inr more ↦ absurd (q.longest at more p.within p.begins) ]
-]
+-- and so does the line of its refusal
+pub fault_answers : (input text : List ℕ) (none texts : List (Option (List ℕ))) (fault : SourceFault) (r : Result Made Memory) → text ≡ input → none ≡ [] → IsUtf8 input
+    → IsRefused text none texts fault → IfOk r (λ outcome. (fault ≡ source.Memory → ⊥) × (answer_in outcome ≡ refusal (source_line (fault_text fault))))
+    → IfOk r (λ outcome. AnswersSource input (answer_in outcome))
+fault_answers input text none texts fault (Ok outcome) same is_none is refused answer = fault_answer input text none texts fault (answer_in outcome) same is_none is refused answer
+fault_answers input text none texts fault (Err e) same is_none is refused answer = tt
 
-pub one_answer : (input : List ℕ) (a b : Answer) → AnswersSource input a → AnswersSource input b → a ≡ b
-one_answer input _ _ (not_yet at p) (not_yet to q) = ap (λ (n : ℕ). refusal (source_not_yet_line n)) (one_place input at to p q)
-one_answer input _ _ (not_yet at p) (large ns q more) = absurd (p.none ns q)
-one_answer input _ _ (not_yet at p) (encoded ns q few) = absurd (p.none ns q)
-one_answer input _ _ (large ns p more) (not_yet at q) = absurd (q.none ns p)
-one_answer input _ _ (large ns p more) (large ms q more') = refl
-one_answer input _ _ (large ns p more) (encoded ms q few) = let same = one_source ns ms input p q in absurd (omega (arith, ap (λ (xs : List ℕ). length (file nothing (source_tree xs))) same, more, few))
-one_answer input _ _ (encoded ns p few) (not_yet at q) = absurd (q.none ns p)
-one_answer input _ _ (encoded ns p few) (large ms q more) = let same = one_source ns ms input p q in absurd (omega (arith, ap (λ (xs : List ℕ). length (file nothing (source_tree xs))) same, more, few))
-one_answer input _ _ (encoded ns p few) (encoded ms q few') = ap (λ (xs : List ℕ). output (file nothing (source_tree xs))) (one_source ns ms input p q)
+-- the refusal that an answer of the parser is
+abbrev fault_in : Answer → Option SourceFault
+fault_in (uncut fault) = Some (source.Token fault)
+fault_in (stopped stop) = Some (fault_of stop)
+fault_in (made texts (Ok t)) = None
+fault_in (made texts (Err faults.Memory)) = None
+fault_in (made texts (Err faults.TooDeep)) = Some source.DeepTree
+fault_in (made texts (Err faults.Broken)) = Some source.Broken
+
+record Refusing (text : List ℕ) (fault : SourceFault) : Type 0 where
+  answer : Answer
+  is : IsAnswer text [] answer
+  fault_is : fault_in answer ≡ Some fault
+
+refusing : (text : List ℕ) (texts : List (Option (List ℕ))) (fault : SourceFault) → (fault ≡ source.Memory → ⊥) → IsRefused text [] texts fault → Refusing text fault
+refusing text texts source.Memory no_memory refused = absurd (no_memory refl)
+refusing text texts (source.Token fault) no_memory refused = record { answer = uncut fault; is = refused; fault_is = refl }
+refusing text texts (source.Syntax at) no_memory refused = record { answer = stopped (Syntax at); is = refused; fault_is = refl }
+refusing text texts (source.NotHere at what) no_memory refused = record { answer = stopped (NotHere at what); is = refused; fault_is = refl }
+refusing text texts (source.TooDeep at) no_memory refused = record { answer = stopped (TooDeep at); is = refused; fault_is = refl }
+refusing text texts source.DeepTree no_memory refused = record { answer = made texts (Err faults.TooDeep); is = refused; fault_is = refl }
+refusing text texts source.Broken no_memory refused = record { answer = made texts (Err faults.Broken); is = refused; fault_is = refl }
+
+same_some : (f g : SourceFault) → Some f ≡ Some g → f ≡ g
+same_some f g e = cc
+
+no_some : (f : SourceFault) → Some f ≡ None → ⊥
+no_some f e = cc
+
+one_fault : (text : List ℕ) (f g : SourceFault) → Refusing text f → Refusing text g → f ≡ g
+one_fault text f g p q = same_some f g (sym p.fault_is ∙ ap fault_in (one_of_text text [] p.answer q.answer p.is q.is) ∙ q.fault_is)
+
+no_fault : (text : List ℕ) (texts : List (Option (List ℕ))) (t : Tree) (f : SourceFault) → Refusing text f → IsSource text [] texts (Ok t) → ⊥
+no_fault text texts t f p source = no_some f (sym p.fault_is ∙ ap fault_in (one_of_text text [] p.answer (made texts (Ok t)) p.is source))
+
+same_tree : (r s : Result Tree Fault) (t u : Tree) → r ≡ Ok t → s ≡ Ok u → r ≡ s → t ≡ u
+same_tree r s t u p q e = cc
+
+pub one_answer : (input : List ℕ) (a b : Outcome) → AnswersSource input a → AnswersSource input b → a ≡ b
+one_answer input _ _ (no_text p) (no_text q) = refl
+one_answer input _ _ (no_text p) (no_tree f texts is no_memory q) = absurd (p is)
+one_answer input _ _ (no_text p) (has_tree texts t is q) = absurd (p is)
+one_answer input _ _ (no_tree f texts is no_memory p) (no_text q) = absurd (q is)
+one_answer input _ _ (no_tree f texts is no_memory p) (no_tree g more is' no_memory' q) =
+    ap (λ (x : SourceFault). refusal (source_line (fault_text x))) (one_fault input f g (refusing input texts f no_memory p) (refusing input more g no_memory' q))
+one_answer input _ _ (no_tree f texts is no_memory p) (has_tree more t is' q) = absurd (no_fault input more t f (refusing input texts f no_memory p) q)
+one_answer input _ _ (has_tree texts t is p) (no_text q) = absurd (q is)
+one_answer input _ _ (has_tree texts t is p) (no_tree f more is' no_memory q) = absurd (no_fault input texts t f (refusing input more f no_memory q) p)
+one_answer input _ _ (has_tree texts t is p) (has_tree more u is' q) =
+    let same = one_tree input [] texts more (Ok t) (Ok u) p q
+    in ap (λ (x : List (Option (List ℕ))). tree_answer x t) same.0 ∙ ap (λ (x : Tree). tree_answer more x) (same_tree (Ok t) (Ok u) t u refl refl same.1)

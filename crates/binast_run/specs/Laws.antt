@@ -12,7 +12,8 @@ use Rattle.binast_run.specs.File.{file, nothing}
 use Rattle.binast_run.specs.FirstKinds.{first_other}
 use Rattle.binast_run.specs.FirstSource.{IsFirstSource}
 use Rattle.binast_run.specs.Reading.{first_fault, IsFileOfScript}
-use Rattle.binast_run.specs.Result.{Answer, AnswersInput, most_bytes}
+use Rattle.binast_run.specs.Answer.{Answer, most_bytes}
+use Rattle.binast_run.specs.Result.{AnswersInput}
 use Rattle.binast_run.specs.SourceTree.{source_tree}
 
 abbrev pub FilesOfFirstSourcesAreInGrammar : Type 0

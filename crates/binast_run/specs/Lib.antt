@@ -1,13 +1,12 @@
-pub mod File
+pub mod Answer
 pub mod FirstKinds
-pub mod FirstScan
-pub mod FirstSource
 pub mod Laws
 pub mod Lines
 pub mod Outcome
 pub mod Output
 pub mod Reading
 pub mod Result
-pub mod SourceTree
+pub mod SourceLines
+pub mod Sources
 pub mod Status
 pub mod Words

@@ -1,4 +1,4 @@
--- The lines that refuse a source or a file, and the one that accepts a file.
+-- The lines that refuse a file, and the one that accepts it.
 use Rattle.std.specs.Prelude.{ℕ, List, ◌++◌, codes, decimal}
 use Rattle.bast_base.specs.declared.errors.FormatFault.{FormatFault}
 use Rattle.bast_base.specs.declared.errors.Why.{Why}
@@ -37,10 +37,6 @@ not_yet_line node = line (codes "file: NotYet at node " ++ decimal node)
 -- the line of an accepted file of so many bytes, none of whose functions is lazy
 abbrev pub accepted_line : ℕ → List ℕ
 accepted_line bytes = line (codes "ok: " ++ decimal bytes ++ codes " bytes, 0 lazy functions")
-
--- the line of a text that is no first source, of which so many bytes begin one
-abbrev pub source_not_yet_line : ℕ → List ℕ
-source_not_yet_line at = line (codes "source: NotYet at " ++ decimal at)
 
 -- the line of a source whose file would be too large
 abbrev pub large_file_line : List ℕ

@@ -1,7 +1,7 @@
 -- What a command's outcome says.
 use Rattle.binast_run.specs.declared.outcome.Outcome.{Outcome}
 use Rattle.binast_run.specs.declared.outcome.Outcome.TheVariants.{Output, Refusal}
-use Rattle.binast_run.specs.Result.{Answer, output, refusal}
+use Rattle.binast_run.specs.Answer.{Answer, output, refusal}
 
 -- an output is the answer of status 0, and a refusal's line that of status 1
 abbrev pub answer_in : Outcome → Answer

@@ -9,36 +9,14 @@ use Rattle.bast_base.specs.Causes.{Rose}
 use Rattle.binast_run.specs.declared.command.Command.{Command}
 use Rattle.binast_run.specs.declared.command.Command.TheVariants.{EncodeEager, Decode, Check}
 use Rattle.binast_run.specs.declared.status.Fault.TheVariants.{BadWords}
-use Rattle.binast_run.specs.File.{file, nothing}
+use Rattle.binast_run.specs.Answer.{Answer, most_bytes, output, refusal}
 use Rattle.binast_run.specs.FirstKinds.{first_other}
-use Rattle.binast_run.specs.FirstSource.{IsFirstSource, IsNoFirstSource}
-use Rattle.binast_run.specs.Lines.{accepted_line, fault_line, large_file_line, not_yet_line, source_not_yet_line}
+use Rattle.binast_run.specs.Lines.{accepted_line, fault_line, not_yet_line}
 use Rattle.binast_run.specs.Output.{AppendsFront}
 use Rattle.binast_run.specs.Reading.{first_fault, IsFileOfScript}
-use Rattle.binast_run.specs.SourceTree.{source_tree}
+use Rattle.binast_run.specs.Sources.{AnswersSource}
 use Rattle.binast_run.specs.Status.{line_of}
 use Rattle.binast_run.specs.Words.{command_in}
-
--- a status, and the output for 0 or the line for another
-pub record Answer : Type 0 where
-  pub status : ℕ
-  pub text : List ℕ
-
-abbrev pub output : List ℕ → Answer
-output text = record { status = 0; text = text }
-
-abbrev pub refusal : List ℕ → Answer
-refusal text = record { status = 1; text = text }
-
--- how many bytes an input and an encoded file may have
-abbrev pub most_bytes : ℕ
-most_bytes = 8388608
-
--- The answer to a source: its file, or the line that says why there is none.
-pub data AnswersSource (input : List ℕ) : Answer → Type 0 where
-  not_yet : (at : ℕ) → IsNoFirstSource input at → AnswersSource input (refusal (source_not_yet_line at))
-  large : (ns : List ℕ) → IsFirstSource ns input → most_bytes < length (file nothing (source_tree ns)) → AnswersSource input (refusal large_file_line)
-  encoded : (ns : List ℕ) → IsFirstSource ns input → length (file nothing (source_tree ns)) ≤ most_bytes → AnswersSource input (output (file nothing (source_tree ns)))
 
 -- an output, but where a node has another kind than the first ones
 abbrev pub unless_other : Option ℕ → List ℕ → Answer

@@ -1,5 +1,6 @@
 ghost use Rattle.std.specs.Prelude.{◌≡◌, ◌<◌, ◌≤◌, ◌-◌, ◌^◌, ◌⊎◌, length, is_some, IsTrue};
-ghost use Rattle.binast_run.specs.Result.{most_bytes, FitsIn, IsAnswered};
+ghost use Rattle.binast_run.specs.Answer.{most_bytes};
+ghost use Rattle.binast_run.specs.Result.{FitsIn, IsAnswered};
 ghost use Rattle.binast_run.specs.Words.{command_in};
 
 use crate::gate::Gate;

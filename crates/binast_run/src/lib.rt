@@ -2,10 +2,8 @@
 #![tactic(auto)]
 
 mod command;
-mod encode;
 mod files;
 mod first_kinds;
-mod first_source;
 mod gate;
 mod in_memory;
 mod laws;
@@ -13,11 +11,13 @@ mod lines;
 mod outcome;
 mod output;
 mod program;
-mod source_tree;
+#[cfg(test)]
+mod source_cases;
+mod source_lines;
+mod sources;
 mod status;
 #[cfg(test)]
 mod tests;
-mod writer;
 
 pub use gate::{Gate, Idle};
 pub use in_memory::run_in_memory;

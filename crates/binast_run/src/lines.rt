@@ -1,6 +1,6 @@
-// The lines that tell of a source or a file.
+// The lines that tell of a file.
 ghost use Rattle.std.specs.Prelude.{◌≡◌, ◌++◌, codes, decimal, string_bytes, IfOk, OnOk};
-ghost use Rattle.binast_run.specs.Lines.{accepted_line as accepted, fault_line as of_fault, large_file_line as large_file, not_yet_line as not_yet, source_not_yet_line as source_not_yet, why_text};
+ghost use Rattle.binast_run.specs.Lines.{accepted_line as accepted, fault_line as of_fault, large_file_line as large_file, not_yet_line as not_yet, why_text};
 
 use bast_base::{FormatFault, Memory, Why};
 use itoa::Buffer;
@@ -24,16 +24,6 @@ pub(crate) fn not_yet_line(alloc: Global, node: u32) -> Result<String, Memory>
 {
     let mut text = String::from_str(alloc, "file: NotYet at node ")?;
     put_number(node, &mut text)?;
-    text.push('\n')?;
-    Ok(text)
-}
-
-// The line of a text that is no first source, of which so many bytes begin one.
-pub(crate) fn source_not_yet_line(alloc: Global, at: u32) -> Result<String, Memory>
-    ensures { IfOk result (λ text. string_bytes text ≡ source_not_yet at) }
-{
-    let mut text = String::from_str(alloc, "source: NotYet at ")?;
-    put_number(at, &mut text)?;
     text.push('\n')?;
     Ok(text)
 }
@@ -82,7 +72,7 @@ fn put_why(why: Why, into: &mut String) -> Result<(), Memory>
     }
 }
 
-fn put(word: &str, into: &mut String) -> Result<(), Memory>
+pub(crate) fn put(word: &str, into: &mut String) -> Result<(), Memory>
     ensures { OnOk result (string_bytes into.new ≡ string_bytes into.old ++ word.now) }
 {
     Ok(into.push_str(word)?)
@@ -95,7 +85,7 @@ fn put_numbered(word: &str, number: u32, into: &mut String) -> Result<(), Memory
     put_number(number, into)
 }
 
-fn put_number(number: u32, into: &mut String) -> Result<(), Memory>
+pub(crate) fn put_number(number: u32, into: &mut String) -> Result<(), Memory>
     ensures { OnOk result (string_bytes into.new ≡ string_bytes into.old ++ decimal number) }
 {
     Ok(into.push_str(Buffer::new().format(number))?)

@@ -1,4 +1,5 @@
 use super::*;
+use crate::source_cases;
 use bast_base::{Chars, MemSink, MemSource, Steps, SureSink, SureSource};
 use std::alloc::{AllocError, Global};
 use std::test::Fail;
@@ -71,32 +72,120 @@ fn encodes_whole_numbers(rt: HostRuntime) -> Result<(), Fail> {
     Ok(())
 }
 
-// Each text with the length of its longest front that begins a first source.
-#[test]
-fn refuses_other_sources(rt: HostRuntime) -> Result<(), Fail> {
-    let alloc = rt.alloc();
-    let cases: [(&str, u32); 16] = [
-        ("1.5;", 1),
-        ("01;", 1),
-        ("00;", 1),
-        ("1", 1),
-        ("0", 1),
-        ("9007199254740991", 16),
-        ("9007199254740992;", 15),
-        ("90071992547409910;", 16),
-        (";", 0),
-        ("1;;", 2),
-        ("a;", 0),
-        ("1 ;", 1),
-        (" 1;\t", 3),
-        ("1; 2", 4),
-        ("1;\n\n2;x", 6),
-        ("\u{FF}", 0),
-    ];
-    for (text, at) in cases {
-        let line = format!(in alloc; "source: NotYet at {at}\n")?;
-        assert!(rt; refuses(alloc, "encode eager", text.as_bytes(), line.as_str())?);
+// The line that refuses a source, or no character where its file is written.
+fn line_of_source(alloc: Global, source: &[u8]) -> Result<Vec<u8>, AllocError> {
+    let ran = encode_with_room(alloc, source, 4_000)?;
+    if ran.0 == 0 && ran.2.written().is_empty() {
+        return Ok(Vec::new(alloc));
     }
+    if ran.0 == 1 && ran.1.written().is_empty() {
+        return ran.2.written().to_vec(alloc);
+    }
+    b"neither".to_vec(alloc)
+}
+
+// Encodes a source from memory, with so much room for its file.
+fn encode_with_room(
+    alloc: Global,
+    source: &[u8],
+    room: usize,
+) -> Result<(u8, SureSink, SureSink), AllocError> {
+    run_large(alloc, "encode eager", source.to_vec(alloc)?, room)
+}
+
+// The first source that has another line than is told.
+fn first_other<'a>(
+    alloc: Global,
+    cases: &[(&'a str, &str)],
+) -> Result<Option<&'a str>, AllocError> {
+    for (source, line) in cases {
+        if line_of_source(alloc, source.as_bytes())?.as_slice() != line.as_bytes() {
+            return Ok(Some(*source));
+        }
+    }
+    Ok(None)
+}
+
+#[test]
+fn refuses_what_has_no_tree(rt: HostRuntime) -> Result<(), Fail> {
+    assert_eq!(rt; first_other(rt.alloc(), source_cases::REFUSED)?, None);
+    Ok(())
+}
+
+#[test]
+fn refuses_early_errors_and_nothing_beside_them(rt: HostRuntime) -> Result<(), Fail> {
+    assert_eq!(rt; first_other(rt.alloc(), source_cases::EARLY)?, None);
+    Ok(())
+}
+
+#[test]
+fn refuses_bytes_that_are_no_text(rt: HostRuntime) -> Result<(), Fail> {
+    let alloc = rt.alloc();
+    for (source, at) in source_cases::NO_TEXTS {
+        let line = format!(in alloc; "source: NotUtf8 at {at}\n")?;
+        assert!(rt; refuses(alloc, "encode eager", source, line.as_str())?);
+    }
+    Ok(())
+}
+
+#[test]
+fn encodes_a_script_of_many_statements(rt: HostRuntime) -> Result<(), Fail> {
+    let (source, file) = source_cases::CART;
+    let (status, sink, notes) = encode_with_room(rt.alloc(), source.as_bytes(), 4_000)?;
+    assert_eq!(rt; status, 0);
+    assert_eq!(rt; sink.written(), file);
+    assert_eq!(rt; notes.written().len(), 0);
+    Ok(())
+}
+
+// The strings of a file stand in the order of their first use, and scopes tell what is declared.
+#[test]
+fn encodes_scopes_and_names(rt: HostRuntime) -> Result<(), Fail> {
+    let alloc = rt.alloc();
+    let cases: [(&str, &[u8]); 2] = [
+        (
+            "let x; x;",
+            b"[STRINGS]identity;\x32\x06\x02x\x22non-const lexical\x06let[TREE]identity;\x28\x00\x00\x02\x02\x04\x00\x02\x00\x00\x04\x06\x04\x02\x08\x0A\x00\x0C\x0E\x10\x00",
+        ),
+        (
+            "eval(\"1\");",
+            b"[STRINGS]identity;\x10\x04\x08eval\x021[TREE]identity;\x1A\x00\x00\x02\x00\x01\x02\x04\x06\x08\x00\x02\x0A\x02",
+        ),
+    ];
+    for (source, end) in cases {
+        let (status, sink, _) = encode_with_room(alloc, source.as_bytes(), 400)?;
+        assert_eq!(rt; status, 0);
+        assert!(rt; sink.written().ends_with(end));
+    }
+    Ok(())
+}
+
+// So many of an opening, `1`, and as many closings.
+fn nested(
+    alloc: Global,
+    opening: &[u8],
+    closing: &[u8],
+    count: u32,
+) -> Result<Vec<u8>, AllocError> {
+    let mut text = repeated(alloc, opening, count as usize)?;
+    text.push(b'1')?;
+    for _ in 0..count {
+        text.extend_from_slice(closing)?;
+    }
+    Ok(text)
+}
+
+#[test]
+fn bounds_nesting_and_depth(rt: HostRuntime) -> Result<(), Fail> {
+    let alloc = rt.alloc();
+    let most = nested(alloc, b"(", b")", 1_024)?;
+    assert_eq!(rt; line_of_source(alloc, &most)?.len(), 0);
+    let more = nested(alloc, b"(", b")", 1_025)?;
+    assert!(rt; refuses(alloc, "encode eager", &more, "source: TooDeep at 1024\n")?);
+    let mut deep = b"(".to_vec(alloc)?;
+    deep.extend_from_slice(&nested(alloc, b"{a:", b"}", 256)?)?;
+    deep.push(b')')?;
+    assert!(rt; refuses(alloc, "encode eager", &deep, "source: DeepTree\n")?);
     Ok(())
 }
 
@@ -394,7 +483,7 @@ fn refuses_each_front_of_a_file(rt: HostRuntime) -> Result<(), Fail> {
 }
 
 #[test]
-fn refuses_kinds_that_no_first_source_makes(rt: HostRuntime) -> Result<(), Fail> {
+fn refuses_kinds_that_no_list_of_numbers_makes(rt: HostRuntime) -> Result<(), Fail> {
     let alloc = rt.alloc();
     let file =
         b"BINJS\x02[GRAMMAR]identity;\x62\x06\x0CScript\x32AssertedScriptGlobalScope\x1CEmptyStatement[STRINGS]identity;\x02\x00[TREE]identity;\x0E\x00\x00\x02\x00\x00\x02\x04";
@@ -429,18 +518,30 @@ fn repeated(alloc: Global, text: &[u8], times: usize) -> Result<Vec<u8>, AllocEr
     Ok(all)
 }
 
-// The smallest file of a first source that is too large: it would have 8,388,611 bytes.
+const LARGE: usize = 151;
+
+// A file of 8,388,608 bytes is written, and one of a byte more is not: a script of one template, whose file has LARGE
+// bytes more than it has characters.
 #[test]
 fn refuses_a_file_that_is_too_large(rt: HostRuntime) -> Result<(), Fail> {
     let alloc = rt.alloc();
-    let source = repeated(alloc, b"1;", 838_846)?;
-    let (status, sink, notes) = run_large(alloc, "encode eager", source, 100)?;
-    assert_eq!(rt; status, 1);
-    assert_eq!(rt; sink.written().len(), 0);
-    assert_eq!(rt;
-        notes.written(),
-        b"file: larger than 8388608 bytes\n".as_slice()
-    );
+    for more in 0..=1 {
+        let mut source = b"`".to_vec(alloc)?;
+        source.extend_from_slice(&repeated(alloc, b"a", 8_388_608 - LARGE + more)?)?;
+        source.push(b'`')?;
+        let (status, sink, notes) = run_large(alloc, "encode eager", source, 8_388_608)?;
+        if more == 0 {
+            assert_eq!(rt; status, 0);
+            assert_eq!(rt; sink.written().len(), 8_388_608);
+        } else {
+            assert_eq!(rt; status, 1);
+            assert_eq!(rt; sink.written().len(), 0);
+            assert_eq!(rt;
+                notes.written(),
+                b"file: larger than 8388608 bytes\n".as_slice()
+            );
+        }
+    }
     Ok(())
 }
 

@@ -1,7 +1,7 @@
 use Rattle.std.proofs.Common.{List, ℕ, sym, subst}
 use Rattle.binast_run.specs.Output.{AppendsFront}
 use Rattle.binast_run.proofs.Outputs.{answered, outputs_front}
-use Rattle.binast_run.specs.Result.{output, refusal}
+use Rattle.binast_run.specs.Answer.{output, refusal}
 use Rattle.binast_run.proofs.program.run.Goals as goal
 
 pub returns-clause-write_fault : goal.returns-clause-write_fault
