@@ -1,6 +1,6 @@
 -- The names that a node declares for the rules, and the parameters of a function.
 use Rattle.std.specs.Prelude.{ℕ, Bool, true, false, Option, None, List, [], ◌∷◌, ◌++◌, nat_eq, if◌then◌else◌}
-use Rattle.bast_schema.specs.Tree.{branch, Datum, child, absent, listed, choice, Data, none, more}
+use Rattle.bast_schema.specs.Tree.{branch, Datum, child, listed, choice, Data, none, more}
 use Rattle.scope_facts.specs.declared.names.Declared.{Declared}
 use Rattle.scope_facts.specs.declared.names.NameKind.{NameKind}
 use Rattle.scope_facts.specs.declared.names.NameKind.TheVariants.{Var}
@@ -8,7 +8,7 @@ use Rattle.scope_facts.specs.declared.roles.Form.{Form}
 use Rattle.scope_facts.specs.declared.roles.Form.TheVariants.{Parameters}
 use Rattle.scope_facts.specs.Roles.{form}
 use Rattle.scope_facts.specs.Names.{tops_in, lexicals_in, vars_in, bound, bound_at, bound_below, bound_below_at}
-use Rattle.scope_facts.specs.Entries.{is_simple}
+use Rattle.scope_facts.specs.Entries.{is_simple, is_absent}
 use Rattle.scope_facts.specs.Uses.{first_name}
 use Rattle.early_errors.specs.declared.kinds.Role.{Role}
 use Rattle.early_errors.specs.declared.kinds.Role.TheVariants.{Script, Contents, Arrow, Block, For, Catch, Declarator, Unary, Use}
@@ -64,14 +64,14 @@ abbrev pub parameters_at : Datum → List ℕ
 parameters_at (child (branch k fs)) = parameters_by (form k) fs (child (branch k fs))
 parameters_at _ = []
 
--- those behind a parameter scope
-abbrev pub parameters_behind : Data → List ℕ
-parameters_behind (more d (more e ds)) = parameters_at e
-parameters_behind _ = []
+abbrev pub parameters_first : Data → List ℕ
+parameters_first none = []
+parameters_first (more d ds) = parameters_at d
 
+-- those behind the parameter scope of a function
 abbrev pub parameter_names : Role → Data → List ℕ
-parameter_names Contents ds = parameters_behind ds
-parameter_names Arrow ds = parameters_behind ds
+parameter_names Contents ds = parameters_first (behind ds)
+parameter_names Arrow ds = parameters_first (behind ds)
 parameter_names _ ds = []
 
 -- whether the contents of a function have simple parameters
@@ -84,18 +84,29 @@ abbrev pub caught : Role → Data → List ℕ
 caught Catch ds = bound ds
 caught _ ds = []
 
-abbrev pub block_of : Data → Data
-block_of (more scope (more binding (more (child (branch k ds)) others))) = ds
-block_of _ = none
+abbrev pub values_at : Datum → Data
+values_at (child (branch k ds)) = ds
+values_at _ = none
+
+abbrev pub values_first : Data → Data
+values_first none = none
+values_first (more d ds) = values_at d
+
+abbrev pub declared_names : Data → List ℕ
+declared_names ds = lexical_names Block ds ++ var_names Block ds
 
 abbrev pub block_names : Role → Data → List ℕ
-block_names Catch ds = lexical_names Block (block_of ds) ++ var_names Block (block_of ds)
+block_names Catch ds = declared_names (values_first (behind (behind ds)))
 block_names _ ds = []
 
 -- the name of a declarator without initializer
+abbrev pub starts_absent : Data → Bool
+starts_absent none = false
+starts_absent (more d ds) = is_absent d
+
 abbrev pub bare_of : Data → Option ℕ
-bare_of (more d (more absent ds)) = bound_at d
-bare_of _ = None
+bare_of none = None
+bare_of (more d ds) = if starts_absent ds then bound_at d else None
 
 abbrev pub bare_name : Role → Data → Option ℕ
 bare_name Declarator ds = bare_of ds
@@ -110,9 +121,17 @@ abbrev pub used_name : Datum → Option ℕ
 used_name (child (branch k ds)) = use_name (role k) ds
 used_name _ = None
 
+abbrev pub used_first : Data → Option ℕ
+used_first none = None
+used_first (more d ds) = used_name d
+
+abbrev pub is_delete : Datum → Bool
+is_delete (choice n) = nat_eq n 6
+is_delete _ = false
+
 abbrev pub deleted_of : Data → Option ℕ
-deleted_of (more (choice n) (more d ds)) = if nat_eq n 6 then used_name d else None
-deleted_of _ = None
+deleted_of none = None
+deleted_of (more d ds) = if is_delete d then used_first ds else None
 
 abbrev pub deleted_name : Role → Data → Option ℕ
 deleted_name Unary ds = deleted_of ds

@@ -13,7 +13,7 @@ use Rattle.early_errors.specs.Around.{Around, Site, sites, start}
 use Rattle.early_errors.specs.Reading.{reading}
 use Rattle.early_errors.specs.Rules.{says}
 
-abbrev pub early_rules : List Rule
+unfoldable pub early_rules : List Rule
 early_rules = E1 ∷ E2 ∷ E3 ∷ E4 ∷ E5 ∷ E6 ∷ E7 ∷ E8 ∷ E9 ∷ E10 ∷ E11 ∷ E12 ∷ E13 ∷ E14 ∷ E15 ∷ E16 ∷ E17 ∷ E18 ∷ []
 
 abbrev pub violation : ℕ → Rule → Finding → Option Violation

@@ -164,7 +164,7 @@ e16 x = where_so (x.flags.target && not (is_target x.role)) None
 -- a binding, a use or a label is no identifier, or is reserved everywhere (11.6.2, 12.1); the name of a member is no
 -- identifier name (11.6, 12.3)
 abbrev pub is_identifier : List ℕ → Bool
-is_identifier t = is_name (chars t) && not (is_some (word_named t))
+is_identifier t = not (is_some (word_named t)) && is_name (chars t)
 
 abbrev pub is_member_name : List ℕ → Bool
 is_member_name t = is_name (chars t)

@@ -2,9 +2,15 @@
 #![tactic(auto)]
 
 mod around;
+mod declares;
 mod kinds;
+mod repeats;
 mod rules;
+mod strict;
+mod texts;
+mod walk;
 
 pub use around::{Flags, Label};
 pub use kinds::{Place, Role};
 pub use rules::Finding;
+pub use walk::{Step, first_early};
