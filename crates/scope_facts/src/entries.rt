@@ -226,7 +226,7 @@ fn is_simple_list(fields: &[Value]) -> bool
 }
 
 /// Whether the parameters that stand after their scope have neither initializer nor rest.
-pub(crate) fn are_simple(after: &[Value]) -> bool
+pub fn are_simple(after: &[Value]) -> bool
     ensures { result ≡ is_simple (data_of after.now) }
 {
     match after {

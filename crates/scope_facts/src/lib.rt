@@ -17,12 +17,16 @@ mod roles;
 
 pub use bare::plain;
 pub use context::{Ctx, FactName, Rule, ScopeFacts, Violation};
+pub use entries::are_simple;
 pub use exact_scopes::annotate;
 pub use laws::{
     entries_are_captured_exactly, evals_are_told_by_all_scopes, exact_scopes_change_scopes_alone,
     uses_find_captured_entries,
 };
-pub use names::{Declared, NameKind};
+pub use names::{
+    Declared, NameKind, bound_name, first_name_of, put_bound, put_bound_below, put_items,
+    put_lexicals_in, put_tops_in, put_vars_in,
+};
 pub use roles::{Form, Part, Shape, form_of, part_of, scope_shape};
 
 #[cfg(test)]

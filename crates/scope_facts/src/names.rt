@@ -41,7 +41,7 @@ pub struct Declared {
 }
 
 /// The first name among the values.
-pub(crate) fn first_name_of(values: &[Value]) -> Option<u32>
+pub fn first_name_of(values: &[Value]) -> Option<u32>
     ensures { result ≡ first_name (data_of values.now) }
 {
     match values {
@@ -54,7 +54,7 @@ pub(crate) fn first_name_of(values: &[Value]) -> Option<u32>
 }
 
 /// The name that a value binds itself.
-fn bound_name(value: &Value) -> Option<u32>
+pub fn bound_name(value: &Value) -> Option<u32>
     ensures { result ≡ bound_at (datum value.now) }
 {
     match value {
@@ -67,7 +67,7 @@ fn bound_name(value: &Value) -> Option<u32>
 }
 
 /// Adds the names that values bind themselves.
-pub(crate) fn put_bound(names: &mut Vec<u32>, values: &[Value]) -> Result<(), Memory>
+pub fn put_bound(names: &mut Vec<u32>, values: &[Value]) -> Result<(), Memory>
     ensures { OnOk result (names.new.items ≡ names.old.items ++ bound (data_of values.now)) }
 {
     for value in values {
@@ -79,7 +79,7 @@ pub(crate) fn put_bound(names: &mut Vec<u32>, values: &[Value]) -> Result<(), Me
 }
 
 /// Adds the names that an item binds, itself or by its fields.
-pub(crate) fn put_bound_below(names: &mut Vec<u32>, item: &Value) -> Result<(), Memory>
+pub fn put_bound_below(names: &mut Vec<u32>, item: &Value) -> Result<(), Memory>
     ensures { OnOk result (names.new.items ≡ names.old.items ++ bound_below_at (datum item.now)) }
 {
     if let Value::Node(node) = item {
@@ -92,7 +92,7 @@ pub(crate) fn put_bound_below(names: &mut Vec<u32>, item: &Value) -> Result<(), 
 }
 
 /// Adds the names that the items of a list bind.
-fn put_items(names: &mut Vec<u32>, items: &[Value]) -> Result<(), Memory>
+pub fn put_items(names: &mut Vec<u32>, items: &[Value]) -> Result<(), Memory>
     ensures { OnOk result (names.new.items ≡ names.old.items ++ bound_below (data_of items.now)) }
 {
     for item in items {
@@ -175,7 +175,7 @@ fn put_vars(names: &mut Vec<u32>, node: &Node) -> Result<(), Memory>
 
 /// Adds the var names in values.
 #[cycle(vars)]
-fn put_vars_in(names: &mut Vec<u32>, values: &[Value]) -> Result<(), Memory>
+pub fn put_vars_in(names: &mut Vec<u32>, values: &[Value]) -> Result<(), Memory>
     ensures { OnOk result (names.new.items ≡ names.old.items ++ vars_in (data_of values.now)) }
 {
     for value in values {
@@ -257,7 +257,7 @@ fn put_lexicals(alloc: Global, out: &mut Vec<Declared>, node: &Node) -> Result<(
 
 /// Adds the lexical names in values.
 #[cycle(lexicals)]
-pub(crate) fn put_lexicals_in(
+pub fn put_lexicals_in(
     alloc: Global,
     out: &mut Vec<Declared>,
     values: &[Value],
@@ -315,11 +315,7 @@ fn put_tops_among(
 }
 
 /// Adds the names that the first list among values declares, as the statements of a script or of a body.
-pub(crate) fn put_tops_in(
-    alloc: Global,
-    out: &mut Vec<Declared>,
-    values: &[Value],
-) -> Result<(), Memory>
+pub fn put_tops_in(alloc: Global, out: &mut Vec<Declared>, values: &[Value]) -> Result<(), Memory>
     ensures { OnOk result (out.new.items ≡ out.old.items ++ tops_in (data_of values.now)) }
 {
     match values {

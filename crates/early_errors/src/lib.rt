@@ -1,0 +1,16 @@
+//! The early errors of a script: what ECMA-262 refuses in a program that its grammar takes.
+#![tactic(auto)]
+
+mod around;
+mod declares;
+mod kinds;
+mod repeats;
+mod rules;
+mod strict;
+mod texts;
+mod walk;
+
+pub use around::{Flags, Label};
+pub use kinds::{Place, Role};
+pub use rules::Finding;
+pub use walk::{Step, first_early};
