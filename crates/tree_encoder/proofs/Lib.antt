@@ -1,0 +1,4 @@
+pub mod Lengths
+pub mod Stay
+pub mod Walk
+pub mod Whole

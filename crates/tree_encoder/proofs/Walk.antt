@@ -1,0 +1,124 @@
+-- Atoms that are written one after another.
+use Rattle.std.proofs.Common.{◌≡◌, ℕ, ◌+◌, ◌<◌, ◌≤◌, List, [], ◌∷◌, ◌++◌, length, length-append, Result, Ok, Err, refl, sym, ap, subst, ◌∙◌, arith}
+use Rattle.bast_schema.specs.declared.kind.Kind.{Kind}
+use Rattle.bast_schema.specs.declared.kind.FieldType.{FieldType}
+use Rattle.bast_schema.specs.Fields.{fields}
+use Rattle.bast_schema.specs.Held.{Held}
+use Rattle.bast_schema.specs.Tree as schema
+use Rattle.bast_schema.specs.Tree.{Tree, branch, Datum, Data, none, more, kind_of, values_of}
+use Rattle.container.specs.Atoms.{Atom, kind, count, flag, index, whole, text, window, atoms, atoms_of, atoms_of_fields, atoms_of_items}
+use Rattle.bast_schema.specs.declared.kind.FieldType.TheVariants as field
+use Rattle.bast_schema.specs.declared.kind.Union.TheVariants.{Body}
+use Rattle.container.specs.Tables.{Tables, kind_place, text_place}
+use Rattle.var_numbers.proofs.VarnumLemmas.{varnum-nonempty}
+use Rattle.var_numbers.specs.Varnum.{varnum}
+use Rattle.tree_encoder.specs.declared.fault.EncodeFault.{EncodeFault}
+use Rattle.tree_encoder.specs.declared.fault.EncodeFault.TheVariants.{Memory, TooLarge}
+use Rattle.tree_encoder.specs.File.{most_bytes, with_atom}
+use Rattle.tree_encoder.specs.Writing.{AllPlain, Puts, Written, atom_bytes, list_atoms, with_next, written}
+
+pub written-append : (w : Written) (a b : List Atom) → written w (a ++ b) ≡ written (written w a) b
+written-append w [] b = refl
+written-append w (x ∷ a) b = written-append (with_next w x) a b
+
+pub plain_parts : (a b : List Atom) → AllPlain (a ++ b) → AllPlain a × AllPlain b
+plain_parts [] b plain = (tt, plain)
+plain_parts (x ∷ a) b plain = let parts = plain_parts a b plain.1 in ((plain.0, parts.0), parts.1)
+
+pub plain_next : (next rest all : List Atom) → all ≡ next ++ rest → AllPlain all → AllPlain next × AllPlain rest
+plain_next next rest all split plain = plain_parts next rest (subst (λ (x : List Atom). AllPlain x) split plain)
+
+-- an atom takes a byte at least
+atom_takes : (s : Tables) (a : Atom) → 1 ≤ length (atom_bytes s a)
+atom_takes s (kind k) = varnum-nonempty (kind_place s k)
+atom_takes s (count n) = varnum-nonempty n
+atom_takes s (flag b) = omega arith
+atom_takes s (index n) = varnum-nonempty n
+atom_takes s (whole n) = omega arith
+atom_takes s (text entry) = varnum-nonempty (text_place s entry)
+atom_takes s (window bytes) = omega (arith, length-append (varnum (length bytes)) bytes, varnum-nonempty (length bytes))
+
+pub written_longer : (w : Written) (as' : List Atom) → length w.bytes + length as' ≤ length (written w as').bytes
+written_longer w [] = omega arith
+written_longer w (a ∷ as') =
+    let rest : length (with_next w a).bytes + length as' ≤ length (written (with_next w a) as').bytes = written_longer (with_next w a) as' in
+    let s = with_atom w.tables a in
+    omega (arith, atom_takes s a, length-append w.bytes (atom_bytes s a))
+
+-- what is too large stays so behind more atoms
+pub larger : (w : Written) (next rest all : List Atom) → all ≡ next ++ rest → most_bytes < length (written w next).bytes → most_bytes < length (written w all).bytes
+larger w next rest all split large =
+    let e : written w all ≡ written (written w next) rest = ap (written w) split ∙ written-append w next rest in
+    let longer = written_longer (written w next) rest in
+    let same : length (written w all).bytes ≡ length (written (written w next) rest).bytes = ap (λ (x : Written). length x.bytes) e in
+    omega (arith, large)
+
+-- what is left, where the next atoms were written
+pub puts_next : (new old : Written) (next rest all : List Atom) (end : Written) → new ≡ written old next → all ≡ next ++ rest → written old all ≡ end → written new rest ≡ end
+puts_next new old next rest all end is split before = ap (λ (x : Written). written x rest) is ∙ sym (written-append old next rest) ∙ ap (written old) (sym split) ∙ before
+
+-- the next atoms are too large, and so are all
+pub puts_fail : (fault : EncodeFault) (first old new end : Written) (next rest all tree : List Atom) → all ≡ next ++ rest → written old all ≡ written first tree → Puts old next new (Err fault) → Puts first tree end (Err fault)
+puts_fail Memory first old new end next rest all tree split before puts = tt
+puts_fail TooLarge first old new end next rest all tree split before puts =
+    let large = larger old next rest all split puts in
+    let same : length (written old all).bytes ≡ length (written first tree).bytes = ap (λ (x : Written). length x.bytes) before in
+    omega (arith, large)
+
+-- behind the first atoms the others were put
+pub puts_more : (r : Result (Unit {0}) EncodeFault) (old mid new : Written) (a b : List Atom) → mid ≡ written old a → Puts mid b new r → Puts old (a ++ b) new r
+puts_more (Ok u) old mid new a b first puts = puts ∙ ap (λ (x : Written). written x b) first ∙ sym (written-append old a b)
+puts_more (Err Memory) old mid new a b first puts = tt
+puts_more (Err TooLarge) old mid new a b first puts =
+    let e : written mid b ≡ written old (a ++ b) = ap (λ (x : Written). written x b) first ∙ sym (written-append old a b) in
+    let same : length (written mid b).bytes ≡ length (written old (a ++ b)).bytes = ap (λ (x : Written). length x.bytes) e in
+    omega (arith, puts)
+
+-- each value has an atom at least
+has_atom : (h : Held) (t : FieldType) (d : Datum) → 1 ≤ length (atoms_of h t d)
+has_atom h t (schema.child (branch k ds)) = omega arith
+has_atom h t schema.absent = omega arith
+has_atom h t (schema.listed ds) = omega arith
+has_atom h t (schema.flag b) = omega arith
+has_atom h t (schema.index n) = omega arith
+has_atom h t (schema.whole n) = omega arith
+has_atom h t (schema.name n) = omega arith
+has_atom h t schema.no_name = omega arith
+has_atom h t (schema.choice n) = omega arith
+has_atom h t (schema.window from to) = omega arith
+
+items_atoms : (h : Held) (ds : Data) → schema.count ds ≤ length (atoms_of_items h ds)
+items_atoms h none = omega arith
+items_atoms h (more d ds) =
+    let rest : schema.count ds ≤ length (atoms_of_items h ds) = items_atoms h ds in
+    omega (arith, has_atom h (field.Optional Body) d, length-append (atoms_of h (field.Optional Body) d) (atoms_of_items h ds))
+
+-- so a list of more items than a file may have bytes is too large
+pub long_list : (w : Written) (h : Held) (ds : Data) → most_bytes < schema.count ds → most_bytes < length (written w (list_atoms h ds)).bytes
+long_list w h ds long =
+    let longer : length w.bytes + length (list_atoms h ds) ≤ length (written w (list_atoms h ds)).bytes = written_longer w (list_atoms h ds) in
+    omega (arith, longer, items_atoms h ds, long)
+
+-- a list's number of items is too large already, and so is the list
+pub list_fails : (fault : EncodeFault) (r : Result (Unit {0}) EncodeFault) (old new : Written) (h : Held) (ds : Data) (n : ℕ) → r ≡ Err fault → n ≡ schema.count ds → (r ≡ Err TooLarge → most_bytes < length (old.bytes ++ varnum n)) → Puts old (list_atoms h ds) new (Err fault)
+list_fails Memory r old new h ds n is same large = tt
+list_fails TooLarge r old new h ds n is same large =
+    larger old (count (schema.count ds) ∷ []) (atoms_of_items h ds) (list_atoms h ds) refl (subst (λ (m : ℕ). most_bytes < length (old.bytes ++ varnum m)) same (large is))
+
+-- behind its number of items the items were put
+pub list_more : (r : Result (Unit {0}) EncodeFault) (old mid new : Written) (h : Held) (ds : Data) (n : ℕ) → n ≡ schema.count ds → mid ≡ record { tables = old.tables; bytes = old.bytes ++ varnum n } → Puts mid (atoms_of_items h ds) new r → Puts old (list_atoms h ds) new r
+list_more r old mid new h ds n same first puts =
+    puts_more r old mid new (count (schema.count ds) ∷ []) (atoms_of_items h ds) (first ∙ ap (λ (m : ℕ). record { tables = old.tables; bytes = old.bytes ++ varnum m }) same) puts
+
+atoms_split : (h : Held) (t : Tree) → atoms h t ≡ kind (kind_of t) ∷ atoms_of_fields h (fields (kind_of t)) (values_of t)
+atoms_split h (branch k ds) = refl
+
+-- a node's kind is too large already, and so is the node
+pub node_fails : (fault : EncodeFault) (old new end : Written) (h : Held) (t : Tree) (k : Kind) → k ≡ kind_of t → Puts old (kind k ∷ []) new (Err fault) → Puts old (atoms h t) end (Err fault)
+node_fails fault old new end h t k same puts =
+    puts_fail fault old old new end (kind k ∷ []) (atoms_of_fields h (fields (kind_of t)) (values_of t)) (atoms h t) (atoms h t)
+    (atoms_split h t ∙ ap (λ (j : Kind). kind j ∷ atoms_of_fields h (fields (kind_of t)) (values_of t)) (sym same)) refl puts
+
+pub plain_join : (a b : List Atom) → AllPlain a → AllPlain b → AllPlain (a ++ b)
+plain_join [] b first rest = rest
+plain_join (x ∷ a) b first rest = (first.0, plain_join a b first.1 rest)

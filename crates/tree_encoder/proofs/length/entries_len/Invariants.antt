@@ -1,0 +1,7 @@
+use Rattle.std.proofs.Common.{◌≡◌, ◌≤◌, length, take}
+use Rattle.container.specs.Clauses.{text_entries}
+use Rattle.tree_encoder.specs.File.{most_bytes}
+use Rattle.tree_encoder.proofs.length.entries_len.Given as goal
+
+abbrev pub invariant-places : goal.invariant-places
+invariant-places l = (l.total ≡ length (text_entries (take l.place l.texts))) × (l.total ≤ most_bytes)

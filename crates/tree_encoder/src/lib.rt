@@ -1,0 +1,14 @@
+//! The writer of files: from a tree and its table of strings to the file's bytes.
+#![tactic(auto)]
+
+mod encoding;
+mod fault;
+mod length;
+mod nodes;
+mod numbers;
+#[cfg(test)]
+mod tests;
+mod writer;
+
+pub use encoding::encode;
+pub use fault::EncodeFault;
