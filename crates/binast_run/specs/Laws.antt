@@ -8,17 +8,10 @@ use Rattle.container.specs.declared.layout.Layout.{Layout}
 use Rattle.container.specs.Atoms.{atoms}
 use Rattle.container.specs.InFile.{InFile}
 use Rattle.binast_run.specs.declared.command.Command.{Command}
-use Rattle.binast_run.specs.File.{file, nothing}
 use Rattle.binast_run.specs.FirstKinds.{first_other}
-use Rattle.binast_run.specs.FirstSource.{IsFirstSource}
 use Rattle.binast_run.specs.Reading.{first_fault, IsFileOfScript}
 use Rattle.binast_run.specs.Answer.{Answer, most_bytes}
 use Rattle.binast_run.specs.Result.{AnswersInput}
-use Rattle.binast_run.specs.SourceTree.{source_tree}
-
-abbrev pub FilesOfFirstSourcesAreInGrammar : Type 0
-FilesOfFirstSourcesAreInGrammar =
-    (ns text : List ℕ) → IsFirstSource ns text → length text ≤ most_bytes → InFile (file nothing (source_tree ns)) nothing (source_tree ns)
 
 -- a file that is read as a tree without windows is in the grammar, and spells that tree
 abbrev pub FilesThatAreReadAreInGrammar : Type 0

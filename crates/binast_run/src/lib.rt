@@ -23,7 +23,6 @@ pub use gate::{Gate, Idle};
 pub use in_memory::run_in_memory;
 pub use laws::{
     files_are_read_as_one_tree, files_have_one_tree, files_in_grammar_have_no_fault,
-    files_of_first_kinds_are_read_so, files_of_first_sources_are_in_grammar,
-    files_that_are_read_are_in_grammar, inputs_have_one_answer,
+    files_of_first_kinds_are_read_so, files_that_are_read_are_in_grammar, inputs_have_one_answer,
 };
 pub use program::run;

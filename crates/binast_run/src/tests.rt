@@ -518,33 +518,6 @@ fn repeated(alloc: Global, text: &[u8], times: usize) -> Result<Vec<u8>, AllocEr
     Ok(all)
 }
 
-const LARGE: usize = 151;
-
-// A file of 8,388,608 bytes is written, and one of a byte more is not: a script of one template, whose file has LARGE
-// bytes more than it has characters.
-#[test]
-fn refuses_a_file_that_is_too_large(rt: HostRuntime) -> Result<(), Fail> {
-    let alloc = rt.alloc();
-    for more in 0..=1 {
-        let mut source = b"`".to_vec(alloc)?;
-        source.extend_from_slice(&repeated(alloc, b"a", 8_388_608 - LARGE + more)?)?;
-        source.push(b'`')?;
-        let (status, sink, notes) = run_large(alloc, "encode eager", source, 8_388_608)?;
-        if more == 0 {
-            assert_eq!(rt; status, 0);
-            assert_eq!(rt; sink.written().len(), 8_388_608);
-        } else {
-            assert_eq!(rt; status, 1);
-            assert_eq!(rt; sink.written().len(), 0);
-            assert_eq!(rt;
-                notes.written(),
-                b"file: larger than 8388608 bytes\n".as_slice()
-            );
-        }
-    }
-    Ok(())
-}
-
 // A file of many numbers, and what its check says.
 #[test]
 fn encodes_many_numbers(rt: HostRuntime) -> Result<(), Fail> {
