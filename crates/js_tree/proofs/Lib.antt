@@ -1,3 +1,6 @@
 pub mod Broken
+pub mod Finishing
+pub mod Gathering
+pub mod Holding
 pub mod Runs
 pub mod StatementLists

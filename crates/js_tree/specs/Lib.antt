@@ -1,3 +1,4 @@
+pub mod Eager
 pub mod Finishes
 pub mod Image
 pub mod Nodes
