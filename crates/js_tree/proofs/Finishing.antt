@@ -463,7 +463,7 @@ pub image_held : (m : Maker) (P : Datum → Type 0) → Kept m P → (ls : List 
 image_held m P kept ls [] h = (h, tt)
 image_held m P kept ls (e ∷ es) h = then (HoldsState P) (HoldsState P) (image m ls es) (event_part m e) (image_held m P kept ls es h) (event_held m P kept e)
 
-root_held : (P : Datum → Type 0) (ps : List Part) → HoldsParts P ps → Holds (Has P) (root ps)
+pub root_held : (P : Datum → Type 0) (ps : List Part) → HoldsParts P ps → Holds (Has P) (root ps)
 root_held P ps h =
     then (ValuesTaken P) (Has P) (taken_values ps) (λ v. cond (length v.1 == 0) (one_node v.0.0) broken) (values_taken P ps h)
     (λ v iv. either (Has P) (length v.1 == 0) (one_node v.0.0) broken (one_node_taken P v.0.0 iv.0.0) tt)

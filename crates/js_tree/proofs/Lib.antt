@@ -4,3 +4,4 @@ pub mod Gathering
 pub mod Holding
 pub mod Runs
 pub mod StatementLists
+pub mod TreesHold
