@@ -54,7 +54,7 @@ tree_held : (m : Maker) (P : Datum → Type 0) → Kept m P → (ls : List Leaf)
 unfolding tree_of
 tree_held m P kept ls es h = then (HoldsState P) (Has P) (image m (reverse ls) es) (λ s. root s.1) (image_held m P kept (reverse ls) es (leaves_back P ls h)) (λ s k. root_held P s.1 k.1)
 
-held_in : {A : Type 0} (Q : A → Type 0) (r : Result A Fault) (x : A) → Holds Q r → r ≡ Ok x → Q x
+pub held_in : {A : Type 0} (Q : A → Type 0) (r : Result A Fault) (x : A) → Holds Q r → r ≡ Ok x → Q x
 held_in Q r x holds e = subst (Holds Q) e holds
 
 -- what holds of all values holds of a tree

@@ -1,8 +1,11 @@
--- What holds of the tree that steps stand for, whatever the steps are.
+-- What holds of the tree that steps stand for.
 use Rattle.std.specs.Prelude.{◌≡◌, ◌≤◌, ℕ, Bool, true, List, Ok}
 use Rattle.bast_schema.specs.Counts.{is_whole}
-use Rattle.bast_schema.specs.Tree.{Tree, depth}
+use Rattle.bast_schema.specs.declared.kind.Kind.TheVariants.{Script}
+use Rattle.bast_schema.specs.Tree.{Tree, depth, kind_of}
 use Rattle.js_machine.specs.declared.events.Event.{Event}
+use Rattle.js_machine.specs.Machine.{Accepted, Ends}
+use Rattle.js_tokens.specs.declared.kinds.Token.{Token}
 use Rattle.js_tree.specs.Eager.{is_eager}
 use Rattle.js_tree.specs.Image.{tree_of}
 use Rattle.js_tree.specs.Names.{all_names, AreNamesIn}
@@ -24,3 +27,7 @@ TreesHaveNames = (p : ℕ → Bool) (ls : List Leaf) (es : List Event) (t : Tree
 -- it is at most 512 deep
 abbrev pub TreesAreShallow : Type 0
 TreesAreShallow = (ls : List Leaf) (es : List Event) (t : Tree) → tree_of limited ls es ≡ Ok t → depth t ≤ 512
+
+-- the tree of an accepted run is that of a script (15.1)
+abbrev pub TreesAreScripts : Type 0
+TreesAreScripts = (text : List ℕ) (ts : List Token) (ls : List Leaf) (es : List Event) (t : Tree) → Ends text ts (Accepted es) → tree_of limited ls es ≡ Ok t → kind_of t ≡ Script

@@ -1,11 +1,13 @@
 //! Laws of the tree that steps stand for. Each function does nothing: its clauses are the law.
 
-ghost use Rattle.js_tree.specs.TreeLaws.{TreesAreEager, TreesAreShallow, TreesAreWhole, TreesHaveNames};
+ghost use Rattle.js_tree.specs.TreeLaws.{TreesAreEager, TreesAreScripts, TreesAreShallow, TreesAreWhole, TreesHaveNames};
 
-/// The tree of steps holds no window and no lazy kind, has no names but those of the tokens, and is at most 512 deep.
+/// The tree of steps holds no window and no lazy kind, has no names but those of the tokens, and is at most 512 deep. That of
+/// an accepted run is a script.
 pub fn trees_hold()
     ensures whole { TreesAreWhole }
     ensures eager { TreesAreEager }
     ensures names { TreesHaveNames }
     ensures shallow { TreesAreShallow }
+    ensures scripts { TreesAreScripts }
 {}

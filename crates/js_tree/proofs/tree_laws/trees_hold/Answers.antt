@@ -1,3 +1,4 @@
+use Rattle.js_tree.proofs.Scripts.{trees_are_scripts}
 use Rattle.js_tree.proofs.TreesHold.{trees_are_whole, trees_are_eager, trees_have_names, trees_are_shallow}
 use Rattle.js_tree.proofs.tree_laws.trees_hold.Goals as goal
 
@@ -12,3 +13,6 @@ returns-clause-names c = trees_have_names
 
 pub returns-clause-shallow : goal.returns-clause-shallow
 returns-clause-shallow c = trees_are_shallow
+
+pub returns-clause-scripts : goal.returns-clause-scripts
+returns-clause-scripts c = trees_are_scripts
