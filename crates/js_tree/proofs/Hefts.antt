@@ -76,7 +76,7 @@ heft_parts (p ∷ ps) = heft_part p + heft_parts ps
 abbrev pub heft_work : Work → ℕ
 heft_work w = size_in w.values + size_in w.held + size_in w.directives + heft_endings w.endings + heft_items w.items
 
-size_join : (ds es : Data) → size_in (join ds es) ≡ size_in ds + size_in es
+pub size_join : (ds es : Data) → size_in (join ds es) ≡ size_in ds + size_in es
 size_join none es = omega arith
 size_join (more d ds) es = omega (arith, size_join ds es)
 
@@ -88,13 +88,13 @@ heft_join (e ∷ es) fs = omega (arith, heft_join es fs)
 some_tree : (t : Tree) → 1 ≤ size t
 some_tree (branch k ds) = omega arith
 
-abbrev Got : ℕ → Work × List Part → Type 0
+abbrev pub Got : ℕ → Work × List Part → Type 0
 Got n r = heft_work r.0 + heft_parts r.1 ≤ n
 
 abbrev LeafLeft : ℕ → Leaf × List Part → Type 0
 LeafLeft n l = heft_parts l.1 ≤ n
 
-abbrev ValuesLeft : ℕ → (Data × Option NameId) × List Part → Type 0
+abbrev pub ValuesLeft : ℕ → (Data × Option NameId) × List Part → Type 0
 ValuesLeft n v = size_in v.0.0 + heft_parts v.1 ≤ n
 
 abbrev EndingsLeft : ℕ → List Ending × List Part → Type 0
@@ -103,10 +103,10 @@ EndingsLeft n e = heft_endings e.0 + heft_parts e.1 ≤ n
 abbrev ItemsLeft : ℕ → List Item × List Part → Type 0
 ItemsLeft n i = heft_items i.0 + heft_parts i.1 ≤ n
 
-abbrev PartsLeft : ℕ → List Part → Type 0
+abbrev pub PartsLeft : ℕ → List Part → Type 0
 PartsLeft n ps = heft_parts ps ≤ n
 
-abbrev TreeOf : ℕ → Tree → Type 0
+abbrev pub TreeOf : ℕ → Tree → Type 0
 TreeOf n t = size t ≤ n
 
 leaf_left : (ps : List Part) → Holds (LeafLeft (heft_parts ps)) (taken_leaf ps)
@@ -117,7 +117,7 @@ leaf_left (parts.Values ds raw ∷ ps) = tt
 leaf_left (parts.Endings es ∷ ps) = tt
 leaf_left (parts.Items is ∷ ps) = tt
 
-values_left : (ps : List Part) → Holds (ValuesLeft (heft_parts ps)) (taken_values ps)
+pub values_left : (ps : List Part) → Holds (ValuesLeft (heft_parts ps)) (taken_values ps)
 values_left [] = tt
 values_left (parts.Token l ∷ ps) = tt
 values_left (parts.Counted ∷ ps) = tt
@@ -145,11 +145,11 @@ top_left : (ps : List Part) → Holds (PartsLeft (heft_parts ps)) (without_top p
 top_left [] = tt
 top_left (p ∷ ps) = omega arith
 
-first_left : (ds : Data) → Holds (λ f. size_at f.0 + size_in f.1 ≤ size_in ds) (first_value ds)
+pub first_left : (ds : Data) → Holds (λ f. size_at f.0 + size_in f.1 ≤ size_in ds) (first_value ds)
 first_left none = tt
 first_left (more d ds) = omega arith
 
-one_left : (ds : Data) → Holds (λ d. size_at d ≤ size_in ds) (one_value ds)
+pub one_left : (ds : Data) → Holds (λ d. size_at d ≤ size_in ds) (one_value ds)
 one_left none = tt
 one_left (more d none) = omega arith
 one_left (more d (more e es)) = tt
@@ -166,14 +166,14 @@ node_left no_name = tt
 node_left (choice n) = tt
 node_left (window from to) = tt
 
-up_to : (n k : ℕ) (r : Result Tree Fault) → n ≤ k → Holds (TreeOf n) r → Holds (TreeOf k) r
+pub up_to : (n k : ℕ) (r : Result Tree Fault) → n ≤ k → Holds (TreeOf n) r → Holds (TreeOf k) r
 up_to n k (Ok t) le h = omega arith
 up_to n k (Err e) le h = tt
 
-one_node_left : (ds : Data) → Holds (TreeOf (size_in ds)) (one_node ds)
+pub one_node_left : (ds : Data) → Holds (TreeOf (size_in ds)) (one_node ds)
 one_node_left ds = then (λ d. size_at d ≤ size_in ds) (TreeOf (size_in ds)) (one_value ds) node_in (one_left ds) (λ d h. up_to (size_at d) (size_in ds) (node_in d) h (node_left d))
 
-node_made : (m : Maker) → Sized m → (k : Kind) (ds : Data) (n : ℕ) → 1 + size_in ds ≤ n → Holds (TreeOf n) (m k ds)
+pub node_made : (m : Maker) → Sized m → (k : Kind) (ds : Data) (n : ℕ) → 1 + size_in ds ≤ n → Holds (TreeOf n) (m k ds)
 node_made m sized k ds n le = each_result (TreeOf n) (m k ds) (λ t made. let s = sized.made k ds t made in omega (arith, s))
 
 value_got : (d : Datum) (w : Work) (ps : List Part) (n : ℕ) → heft_work w + size_at d + heft_parts ps ≤ n → Holds (Got n) (with_value d w ps)
@@ -200,7 +200,7 @@ wrap_got : (w : Work) (ps : List Part) (n : ℕ) → heft_work w + heft_parts ps
 unfolding wrap
 wrap_got w ps n le = then (ValuesLeft (heft_parts ps)) (Got n) (taken_values ps) (λ v. with_value (listed v.0.0) w v.1) (values_left ps) (λ v r. value_got (listed v.0.0) w v.1 n (omega arith))
 
-nothing_of : {A : Type 0} (r : Result A Fault) → Holds (λ x. Unit {0}) r
+pub nothing_of : {A : Type 0} (r : Result A Fault) → Holds (λ x. Unit {0}) r
 nothing_of r = each_result (λ x. Unit {0}) r (λ x e. tt)
 
 text_got : (w : Work) (ps : List Part) (n : ℕ) → heft_work w + heft_parts ps + 1 ≤ n → Holds (Got n) (text w ps)

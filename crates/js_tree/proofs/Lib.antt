@@ -1,6 +1,7 @@
 pub mod Broken
 pub mod Finishing
 pub mod Gathering
+pub mod HeftFinishes
 pub mod Hefts
 pub mod Holding
 pub mod Runs
