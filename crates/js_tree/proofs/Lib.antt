@@ -4,6 +4,7 @@ pub mod Gathering
 pub mod HeftFinishes
 pub mod Hefts
 pub mod Holding
+pub mod Payments
 pub mod Runs
 pub mod Scripts
 pub mod StatementLists

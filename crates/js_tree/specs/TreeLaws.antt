@@ -1,6 +1,6 @@
 -- What holds of the tree that steps stand for.
-use Rattle.std.specs.Prelude.{◌≡◌, ◌≤◌, ℕ, Bool, true, List, Ok}
-use Rattle.bast_schema.specs.Counts.{is_whole}
+use Rattle.std.specs.Prelude.{◌≡◌, ◌≤◌, ◌<◌, ◌*◌, ℕ, Bool, true, List, length, Ok}
+use Rattle.bast_schema.specs.Counts.{is_whole, size}
 use Rattle.bast_schema.specs.declared.kind.Kind.TheVariants.{Script}
 use Rattle.bast_schema.specs.Tree.{Tree, depth, kind_of}
 use Rattle.js_machine.specs.declared.events.Event.{Event}
@@ -31,3 +31,7 @@ TreesAreShallow = (ls : List Leaf) (es : List Event) (t : Tree) → tree_of limi
 -- the tree of an accepted run is that of a script (15.1)
 abbrev pub TreesAreScripts : Type 0
 TreesAreScripts = (text : List ℕ) (ts : List Token) (ls : List Leaf) (es : List Event) (t : Tree) → Ends text ts (Accepted es) → tree_of limited ls es ≡ Ok t → kind_of t ≡ Script
+
+-- it has fewer values than seven for each token
+abbrev pub TreesAreSmall : Type 0
+TreesAreSmall = (text : List ℕ) (ts : List Token) (ls : List Leaf) (es : List Event) (t : Tree) → Ends text ts (Accepted es) → tree_of limited ls es ≡ Ok t → size t < 7 * length ts
