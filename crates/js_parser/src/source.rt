@@ -1,8 +1,8 @@
 //! The tree of a source text.
 
-ghost use Rattle.std.specs.Prelude.{◌≡◌, ◌≤◌, ◌<◌, ◌^◌, Ok, Err, IfOk, IfErr};
+ghost use Rattle.std.specs.Prelude.{◌≡◌, ◌≤◌, ◌<◌, ◌+◌, ◌*◌, ◌^◌, Ok, Err, IfOk, IfErr};
 ghost use Rattle.std.specs.Prelude.{length, true};
-ghost use Rattle.bast_schema.specs.Counts.{is_whole};
+ghost use Rattle.bast_schema.specs.Counts.{is_whole, size};
 ghost use Rattle.bast_schema.specs.Tree.{depth, kind_of};
 ghost use Rattle.bast_schema.specs.declared.kind.Kind.TheVariants.{Script};
 ghost use Rattle.js_parser.specs.Leaves.{Grows};
@@ -49,6 +49,8 @@ pub fn parse(alloc: Global, text: &str, strings: &mut StringTable) -> Result<Nod
     ensures eager { IfOk result (λ tree. is_eager tree ≡ true) }
     ensures named { IfOk result (λ tree. all_names (is_text strings.new) tree ≡ true) }
     ensures shallow { IfOk result (λ tree. depth tree ≤ 512) }
+    ensures small { IfOk result (λ tree. size tree < 7 * (length text.now + 1)) }
+    ensures size { IfOk result (λ tree. size tree ≤ 2 ^ 26) }
     ensures refused { IfErr result (λ e. IsRefused text.now strings.old strings.new e) }
     ensures grows { Grows strings.old strings.new }
     ensures unchanged { IfErr result (λ e. LeavesTable strings.old strings.new e) }
