@@ -1,2 +1,3 @@
 pub mod LeafLists
+pub mod LeafNames
 pub mod OneAnswer

@@ -1,9 +1,15 @@
 //! The tree of a source text.
 
-ghost use Rattle.std.specs.Prelude.{◌≡◌, ◌≤◌, ◌<◌, ◌^◌, Ok, Err, IfOk, IfErr};
-ghost use Rattle.std.specs.Prelude.{length};
+ghost use Rattle.std.specs.Prelude.{◌≡◌, ◌≤◌, ◌<◌, ◌+◌, ◌*◌, ◌^◌, Ok, Err, IfOk, IfErr};
+ghost use Rattle.std.specs.Prelude.{length, true};
+ghost use Rattle.bast_schema.specs.Counts.{is_whole, size};
+ghost use Rattle.bast_schema.specs.Tree.{depth, kind_of};
+ghost use Rattle.bast_schema.specs.declared.kind.Kind.TheVariants.{Script};
 ghost use Rattle.js_parser.specs.Leaves.{Grows};
 ghost use Rattle.js_parser.specs.Source.{IsRefused, IsSource, LeavesTable, fault_of};
+ghost use Rattle.js_parser.specs.Texts.{is_text};
+ghost use Rattle.js_tree.specs.Eager.{is_eager};
+ghost use Rattle.js_tree.specs.Names.{all_names};
 
 use crate::leaves::leaves_of;
 use bast_base::Memory;
@@ -38,6 +44,13 @@ pub fn parse(alloc: Global, text: &str, strings: &mut StringTable) -> Result<Nod
     requires size { length text.now ≤ 8388608 }
     requires room { length strings.old < 2 ^ 31 }
     ensures tree { IfOk result (λ tree. IsSource text.now strings.old strings.new (Ok tree)) }
+    ensures script { IfOk result (λ tree. kind_of tree ≡ Script) }
+    ensures whole { IfOk result (λ tree. is_whole tree ≡ true) }
+    ensures eager { IfOk result (λ tree. is_eager tree ≡ true) }
+    ensures named { IfOk result (λ tree. all_names (is_text strings.new) tree ≡ true) }
+    ensures shallow { IfOk result (λ tree. depth tree ≤ 512) }
+    ensures small { IfOk result (λ tree. size tree < 7 * (length text.now + 1)) }
+    ensures size { IfOk result (λ tree. size tree ≤ 2 ^ 26) }
     ensures refused { IfErr result (λ e. IsRefused text.now strings.old strings.new e) }
     ensures grows { Grows strings.old strings.new }
     ensures unchanged { IfErr result (λ e. LeavesTable strings.old strings.new e) }

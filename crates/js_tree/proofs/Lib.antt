@@ -1,3 +1,11 @@
 pub mod Broken
+pub mod Finishing
+pub mod Gathering
+pub mod HeftFinishes
+pub mod Hefts
+pub mod Holding
+pub mod Payments
 pub mod Runs
+pub mod Scripts
 pub mod StatementLists
+pub mod TreesHold

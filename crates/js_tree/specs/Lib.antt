@@ -1,5 +1,7 @@
+pub mod Eager
 pub mod Finishes
 pub mod Image
+pub mod Names
 pub mod Nodes
 pub mod Operators
 pub mod Parts
@@ -8,3 +10,4 @@ pub mod Results
 pub mod Runs
 pub mod Statements
 pub mod Steps
+pub mod TreeLaws

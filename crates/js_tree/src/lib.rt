@@ -14,8 +14,10 @@ mod run;
 mod statements;
 mod steps;
 mod switches;
+mod tree_laws;
 mod work;
 
 pub use build::build_tree;
 pub use fault::Fault;
 pub use leaf::Leaf;
+pub use tree_laws::trees_hold;

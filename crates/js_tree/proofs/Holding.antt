@@ -1,0 +1,119 @@
+-- What holds of each value that is gathered, where it holds of what is made of such values.
+use Rattle.std.proofs.Common.{◌≡◌, ℕ, Bool, true, false, not, ◌||◌, ◌&&◌, List, [], ◌∷◌, ◌++◌, Option, Some, None, Result, Ok, Err, refl}
+use Rattle.bast_base.specs.declared.errors.NameId.{NameId}
+use Rattle.bast_schema.specs.declared.kind.Kind.{Kind}
+use Rattle.bast_schema.specs.declared.kind.Kind.TheVariants as kinds
+use Rattle.bast_schema.specs.Counts.{join}
+use Rattle.bast_schema.specs.Fields.{has_lazy}
+use Rattle.bast_schema.specs.Kinds.{same_kind}
+use Rattle.bast_schema.specs.Tree.{Tree, Datum, child, absent, listed, flag, whole, name, no_name, choice, Data, none, more}
+use Rattle.js_tree.specs.Nodes.{Maker, one, identifier}
+use Rattle.js_tree.specs.Results.{◌>>=◌, there}
+use Rattle.js_tree.specs.declared.fault.Fault.{Fault}
+use Rattle.js_tree.specs.declared.leaf.Leaf.{Leaf}
+use Rattle.js_tree.specs.declared.parts.Part.{Part}
+use Rattle.js_tree.specs.declared.parts.Part.TheVariants as parts
+use Rattle.js_tree.specs.declared.parts.Form.{Form}
+use Rattle.js_tree.specs.declared.parts.Form.TheVariants as forms
+use Rattle.js_tree.specs.declared.parts.Ending.{Ending}
+use Rattle.js_tree.specs.declared.parts.Ending.TheVariants as endings
+use Rattle.js_tree.specs.declared.parts.Item.{Item}
+use Rattle.js_tree.specs.declared.work.Work.{Work}
+
+-- it holds of a result, if there is one
+abbrev pub Holds : {A : Type 0} → (A → Type 0) → Result A Fault → Type 0
+Holds Q (Ok x) = Q x
+Holds Q (Err e) = Unit {0}
+
+pub then : {A B : Type 0} (Q : A → Type 0) (R : B → Type 0) (r : Result A Fault) (f : A → Result B Fault) → Holds Q r → ((x : A) → Q x → Holds R (f x)) → Holds R (r >>= f)
+then Q R (Ok x) f holds next = next x holds
+then Q R (Err e) f holds next = tt
+
+pub each_result : {A : Type 0} (Q : A → Type 0) (r : Result A Fault) → ((x : A) → r ≡ Ok x → Q x) → Holds Q r
+each_result Q (Ok x) is = is x refl
+each_result Q (Err e) is = tt
+
+-- of each value
+abbrev pub Each : (Datum → Type 0) → Data → Type 0
+Each P none = Unit {0}
+Each P (more d ds) = P d × Each P ds
+
+-- a kind of node that is made of any values: no lazy one, and no identifier, which is made of a name
+abbrev pub is_made : Kind → Bool
+is_made k = not (has_lazy k || same_kind k kinds.IdentifierExpression)
+
+pub record Kept (m : Maker) (P : Datum → Type 0) : Type 0 where
+  pub node : (k : Kind) (ds : Data) (t : Tree) → is_made k ≡ true → Each P ds → m k ds ≡ Ok t → P (child t)
+  pub named : (k : Kind) (n : ℕ) (t : Tree) → has_lazy k ≡ false → P (name n) → m k (one (name n)) ≡ Ok t → P (child t)
+  pub shorthand : (ds : Data) (t u : Tree) → Each P ds → m kinds.IdentifierExpression ds ≡ Ok t → m kinds.ShorthandProperty (one (child t)) ≡ Ok u → P (child u)
+  pub name_of : (t : Tree) (n : ℕ) → P (child t) → identifier t ≡ Some n → P (name n)
+  pub list : (ds : Data) → Each P ds → P (listed ds)
+  pub no_node : P absent
+  pub no_label : P no_name
+  pub flags : (b : Bool) → P (flag b)
+  pub wholes : (n : ℕ) → P (whole n)
+  pub choices : (n : ℕ) → P (choice n)
+
+abbrev pub HoldsName : (Datum → Type 0) → Option NameId → Type 0
+HoldsName P None = Unit {0}
+HoldsName P (Some n) = P (name n.0)
+
+abbrev pub HoldsLeaf : (Datum → Type 0) → Leaf → Type 0
+HoldsLeaf P l = HoldsName P l.text × HoldsName P l.raw
+
+abbrev pub HoldsForm : (Datum → Type 0) → Form → Type 0
+HoldsForm P forms.Plain = Unit {0}
+HoldsForm P forms.Parameters = Unit {0}
+HoldsForm P forms.Label = Unit {0}
+HoldsForm P (forms.Contents body) = Each P body
+HoldsForm P (forms.Declared ds) = Each P ds
+
+abbrev pub HoldsEnding : (Datum → Type 0) → Ending → Type 0
+HoldsEnding P (endings.Around k form before behind) = (is_made k ≡ true) × HoldsForm P form × Each P before × Each P behind
+HoldsEnding P (endings.Instead t) = P (child t)
+
+abbrev pub HoldsEndings : (Datum → Type 0) → List Ending → Type 0
+HoldsEndings P [] = Unit {0}
+HoldsEndings P (e ∷ es) = HoldsEnding P e × HoldsEndings P es
+
+abbrev pub HoldsItems : (Datum → Type 0) → List Item → Type 0
+HoldsItems P [] = Unit {0}
+HoldsItems P (i ∷ is) = P (child i.statement) × HoldsName P i.raw × HoldsItems P is
+
+abbrev pub HoldsPart : (Datum → Type 0) → Part → Type 0
+HoldsPart P (parts.Token l) = HoldsLeaf P l
+HoldsPart P parts.Counted = Unit {0}
+HoldsPart P (parts.Values ds raw) = Each P ds × HoldsName P raw
+HoldsPart P (parts.Endings es) = HoldsEndings P es
+HoldsPart P (parts.Items is) = HoldsItems P is
+
+abbrev pub HoldsParts : (Datum → Type 0) → List Part → Type 0
+HoldsParts P [] = Unit {0}
+HoldsParts P (p ∷ ps) = HoldsPart P p × HoldsParts P ps
+
+pub record HoldsWork (P : Datum → Type 0) (w : Work) : Type 0 where
+  pub values : Each P w.values
+  pub held : Each P w.held
+  pub directives : Each P w.directives
+  pub raw : HoldsName P w.raw
+  pub endings : HoldsEndings P w.endings
+  pub items : HoldsItems P w.items
+
+pub each_join : (P : Datum → Type 0) (ds es : Data) → Each P ds → Each P es → Each P (join ds es)
+each_join P none es h k = k
+each_join P (more d ds) es h k = (h.0, each_join P ds es h.1 k)
+
+pub endings_join : (P : Datum → Type 0) (es fs : List Ending) → HoldsEndings P es → HoldsEndings P fs → HoldsEndings P (es ++ fs)
+endings_join P [] fs h k = k
+endings_join P (e ∷ es) fs h k = (h.0, endings_join P es fs h.1 k)
+
+pub name_there : (P : Datum → Type 0) (o : Option NameId) → HoldsName P o → Holds (λ n. P (name n.0)) (there o)
+name_there P None h = tt
+name_there P (Some n) h = h
+
+-- of a node that is made
+pub node_made : (m : Maker) (P : Datum → Type 0) → Kept m P → (k : Kind) (ds : Data) → is_made k ≡ true → Each P ds → Holds (λ t. P (child t)) (m k ds)
+node_made m P kept k ds is h = each_result (λ t. P (child t)) (m k ds) (λ t. kept.node k ds t is h)
+
+pub name_made : (m : Maker) (P : Datum → Type 0) → Kept m P → (k : Kind) (n : ℕ) → has_lazy k ≡ false → P (name n) → Holds (λ t. P (child t)) (m k (one (name n)))
+name_made m P kept k n is h = each_result (λ t. P (child t)) (m k (one (name n))) (λ t. kept.named k n t is h)

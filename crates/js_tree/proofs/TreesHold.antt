@@ -1,0 +1,209 @@
+-- What holds of the trees that steps stand for.
+use Rattle.std.proofs.Common.{◌≡◌, ◌≤◌, ◌<◌, ◌+◌, ℕ, cond, Bool, true, false, not, ◌&&◌, ◌||◌, max, length, List, [], ◌∷◌, ◌++◌, reverse, Option, Some, None, Result, Ok, Err, refl, sym, ap, ◌∙◌, subst, arith}
+use Rattle.std.specs.Prelude.{nat_lt}
+use Rattle.std.proofs.lemmas.List.{reverse-append}
+use borrow.Author.Tests.{ltb-false}
+use Rattle.bast_base.specs.declared.errors.NameId.{NameId}
+use Rattle.bast_schema.specs.declared.kind.Kind.{Kind}
+use Rattle.bast_schema.specs.declared.kind.Kind.TheVariants as kinds
+use Rattle.bast_schema.specs.declared.node.NodeFault.{NodeFault}
+use Rattle.bast_schema.specs.declared.node.NodeFault.TheVariants.{Mistyped, TooDeep}
+use Rattle.bast_schema.specs.Counts.{is_whole, is_whole_at, is_whole_in}
+use Rattle.bast_schema.specs.Fields.{fields, has_lazy}
+use Rattle.bast_schema.specs.Kinds.{same_kind, counted}
+use Rattle.bast_schema.specs.Made.{node_or, node_of}
+use Rattle.bast_schema.specs.Tree.{Tree, branch, Datum, child, absent, listed, flag, index, whole, name, no_name, choice, window, Data, none, more, first_wrong, depth, depth_at, depth_in}
+use Rattle.js_machine.specs.declared.events.Event.{Event}
+use Rattle.js_tree.specs.Eager.{is_eager, is_eager_at, are_eager}
+use Rattle.js_tree.specs.Image.{image, root, tree_of}
+use Rattle.js_tree.specs.Names.{all_names, all_names_at, all_names_in, IsNameIn, AreNamesIn}
+use Rattle.js_tree.specs.Nodes.{Maker, one, identifier, first_name, limited, of_node}
+use Rattle.js_tree.specs.Results.{◌>>=◌}
+use Rattle.js_tree.specs.declared.fault.Fault.{Fault}
+use Rattle.js_tree.specs.declared.leaf.Leaf.{Leaf}
+use Rattle.js_tree.specs.declared.parts.Part.{Part}
+use Rattle.js_tree.proofs.Holding.{Holds, then, each_result, Each, is_made, Kept, HoldsName}
+use Rattle.js_tree.proofs.Finishing.{Has, HoldsLeaves, HoldsState, image_held, root_held}
+
+-- what is made with the limit is the node, and is at most 512 deep
+pub record Made (t u : Tree) : Type 0 where
+  pub same : u ≡ t
+  pub shallow : depth u ≤ 512
+
+within : (b : Bool) (u t : Tree) → nat_lt 512 (depth u) ≡ b → of_node (cond b (Err TooDeep) (Ok u)) ≡ Ok t → Made t u
+within true u t e made = absurd cc
+within false u t e made = record { same = cc; shallow = ltb-false 512 (depth u) e }
+
+right : (o : Option ℕ) (u t : Tree) → of_node (node_or o u) ≡ Ok t → Made t u
+right (Some field) u t made = absurd cc
+right None u t made = within (nat_lt 512 (depth u)) u t refl made
+
+pub limited_made : (k : Kind) (ds : Data) (t : Tree) → limited k ds ≡ Ok t → Made t (branch k ds)
+limited_made k ds t made = right (first_wrong 0 (fields k) ds) (branch k ds) t made
+
+-- of all leaves, also with the last one first
+each_leaf : (P : Datum → Type 0) (ls ms : List Leaf) → HoldsLeaves P ls → HoldsLeaves P ms → HoldsLeaves P (ls ++ ms)
+each_leaf P [] ms h k = k
+each_leaf P (l ∷ ls) ms h k = (h.0, each_leaf P ls ms h.1 k)
+
+leaves_back : (P : Datum → Type 0) (ls : List Leaf) → HoldsLeaves P ls → HoldsLeaves P (reverse ls)
+leaves_back P [] h = tt
+leaves_back P (l ∷ ls) h = subst (HoldsLeaves P) (sym (reverse-append (l ∷ []) ls)) (each_leaf P (reverse ls) (l ∷ []) (leaves_back P ls h.1) (h.0, tt))
+
+tree_held : (m : Maker) (P : Datum → Type 0) → Kept m P → (ls : List Leaf) (es : List Event) → HoldsLeaves P ls → Holds (Has P) (tree_of m ls es)
+unfolding tree_of
+tree_held m P kept ls es h = then (HoldsState P) (Has P) (image m (reverse ls) es) (λ s. root s.1) (image_held m P kept (reverse ls) es (leaves_back P ls h)) (λ s k. root_held P s.1 k.1)
+
+pub held_in : {A : Type 0} (Q : A → Type 0) (r : Result A Fault) (x : A) → Holds Q r → r ≡ Ok x → Q x
+held_in Q r x holds e = subst (Holds Q) e holds
+
+-- what holds of all values holds of a tree
+pub of_tree : (m : Maker) (P : Datum → Type 0) → Kept m P → (ls : List Leaf) (es : List Event) (t : Tree) → HoldsLeaves P ls → tree_of m ls es ≡ Ok t → P (child t)
+of_tree m P kept ls es t h made = held_in (Has P) (tree_of m ls es) t (tree_held m P kept ls es h) made
+
+any_name : (P : Datum → Type 0) → ((n : ℕ) → P (name n)) → (o : Option NameId) → HoldsName P o
+any_name P any None = tt
+any_name P any (Some n) = any n.0
+
+no_names_in : (P : Datum → Type 0) → ((n : ℕ) → P (name n)) → (ls : List Leaf) → HoldsLeaves P ls
+no_names_in P any [] = tt
+no_names_in P any (l ∷ ls) = ((any_name P any l.text, any_name P any l.raw), no_names_in P any ls)
+
+both_true : (a b : Bool) → a ≡ true → b ≡ true → (a && b) ≡ true
+both_true true b e f = f
+both_true false b e f = absurd cc
+
+-- no window
+abbrev IsWhole : Datum → Type 0
+IsWhole d = is_whole_at d ≡ true
+
+each_whole : (ds : Data) → Each IsWhole ds → is_whole_in ds ≡ true
+each_whole none h = refl
+each_whole (more d ds) h = both_true (is_whole_at d) (is_whole_in ds) h.0 (each_whole ds h.1)
+
+whole_node : (k : Kind) (ds : Data) (t : Tree) → Each IsWhole ds → limited k ds ≡ Ok t → is_whole t ≡ true
+whole_node k ds t h made = subst (λ t. is_whole t ≡ true) (limited_made k ds t made).same (each_whole ds h)
+
+whole_kept : Kept limited IsWhole
+whole_kept = record {
+  node = λ k ds t is h made. whole_node k ds t h made;
+  named = λ k n t is h made. whole_node k (one (name n)) t (h, tt) made;
+  shorthand = λ ds t u h made again. whole_node kinds.ShorthandProperty (one (child t)) u (whole_node kinds.IdentifierExpression ds t h made, tt) again;
+  name_of = λ t n h e. refl;
+  list = each_whole;
+  no_node = refl; no_label = refl; flags = λ b. refl; wholes = λ n. refl; choices = λ n. refl;
+}
+
+pub trees_are_whole : (ls : List Leaf) (es : List Event) (t : Tree) → tree_of limited ls es ≡ Ok t → is_whole t ≡ true
+trees_are_whole ls es t made = of_tree limited IsWhole whole_kept ls es t (no_names_in IsWhole (λ n. refl) ls) made
+
+-- no lazy kind
+abbrev IsEager : Datum → Type 0
+IsEager d = is_eager_at d ≡ true
+
+each_eager : (ds : Data) → Each IsEager ds → are_eager ds ≡ true
+each_eager none h = refl
+each_eager (more d ds) h = both_true (is_eager_at d) (are_eager ds) h.0 (each_eager ds h.1)
+
+eager_node : (k : Kind) (ds : Data) (t : Tree) → has_lazy k ≡ false → Each IsEager ds → limited k ds ≡ Ok t → is_eager t ≡ true
+eager_node k ds t is h made = subst (λ t. is_eager t ≡ true) (limited_made k ds t made).same (both_true (not (has_lazy k)) (are_eager ds) (ap not is) (each_eager ds h))
+
+neither : (a b : Bool) → not (a || b) ≡ true → a ≡ false
+neither true b e = absurd cc
+neither false b e = refl
+
+eager_kept : Kept limited IsEager
+eager_kept = record {
+  node = λ k ds t is h made. eager_node k ds t (neither (has_lazy k) (same_kind k kinds.IdentifierExpression) is) h made;
+  named = λ k n t is h made. eager_node k (one (name n)) t is (h, tt) made;
+  shorthand = λ ds t u h made again. eager_node kinds.ShorthandProperty (one (child t)) u refl (eager_node kinds.IdentifierExpression ds t refl h made, tt) again;
+  name_of = λ t n h e. refl;
+  list = each_eager;
+  no_node = refl; no_label = refl; flags = λ b. refl; wholes = λ n. refl; choices = λ n. refl;
+}
+
+pub trees_are_eager : (ls : List Leaf) (es : List Event) (t : Tree) → tree_of limited ls es ≡ Ok t → is_eager t ≡ true
+trees_are_eager ls es t made = of_tree limited IsEager eager_kept ls es t (no_names_in IsEager (λ n. refl) ls) made
+
+-- the names
+abbrev IsNamed : (ℕ → Bool) → Datum → Type 0
+IsNamed p d = all_names_at p d ≡ true
+
+each_named : (p : ℕ → Bool) (ds : Data) → Each (IsNamed p) ds → all_names_in p ds ≡ true
+each_named p none h = refl
+each_named p (more d ds) h = both_true (all_names_at p d) (all_names_in p ds) h.0 (each_named p ds h.1)
+
+named_node : (p : ℕ → Bool) (k : Kind) (ds : Data) (t : Tree) → Each (IsNamed p) ds → limited k ds ≡ Ok t → all_names p t ≡ true
+named_node p k ds t h made = subst (λ t. all_names p t ≡ true) (limited_made k ds t made).same (each_named p ds h)
+
+first_true : (a b : Bool) → (a && b) ≡ true → a ≡ true
+first_true true b e = refl
+first_true false b e = e
+
+no_name_here : {A : Type 0} (n : ℕ) → None ≡ Some n → A
+no_name_here n e = cc
+
+name_first : (p : ℕ → Bool) (ds : Data) (n : ℕ) → all_names_in p ds ≡ true → first_name ds ≡ Some n → p n ≡ true
+name_first p none n h e = no_name_here n e
+name_first p (more (child t) ds) n h e = no_name_here n e
+name_first p (more absent ds) n h e = no_name_here n e
+name_first p (more (listed es) ds) n h e = no_name_here n e
+name_first p (more (flag b) ds) n h e = no_name_here n e
+name_first p (more (index i) ds) n h e = no_name_here n e
+name_first p (more (whole i) ds) n h e = no_name_here n e
+name_first p (more (name i) ds) n h e = let same : i ≡ n = cc in subst (λ n. p n ≡ true) same (first_true (p i) (all_names_in p ds) h)
+name_first p (more no_name ds) n h e = no_name_here n e
+name_first p (more (choice i) ds) n h e = no_name_here n e
+name_first p (more (window from to) ds) n h e = no_name_here n e
+
+name_in : (p : ℕ → Bool) (b : Bool) (ds : Data) (n : ℕ) → all_names_in p ds ≡ true → cond b (first_name ds) None ≡ Some n → p n ≡ true
+name_in p true ds n h e = name_first p ds n h e
+name_in p false ds n h e = no_name_here n e
+
+name_of_tree : (p : ℕ → Bool) (t : Tree) (n : ℕ) → all_names p t ≡ true → identifier t ≡ Some n → p n ≡ true
+name_of_tree p (branch k ds) n h e = name_in p (same_kind k kinds.IdentifierExpression) ds n h e
+
+names_kept : (p : ℕ → Bool) → Kept limited (IsNamed p)
+names_kept p = record {
+  node = λ k ds t is h made. named_node p k ds t h made;
+  named = λ k n t is h made. named_node p k (one (name n)) t (h, tt) made;
+  shorthand = λ ds t u h made again. named_node p kinds.ShorthandProperty (one (child t)) u (named_node p kinds.IdentifierExpression ds t h made, tt) again;
+  name_of = name_of_tree p;
+  list = each_named p;
+  no_node = refl; no_label = refl; flags = λ b. refl; wholes = λ n. refl; choices = λ n. refl;
+}
+
+of_name : (p : ℕ → Bool) (o : Option NameId) → IsNameIn p o → HoldsName (IsNamed p) o
+of_name p None h = tt
+of_name p (Some n) h = h
+
+names_of : (p : ℕ → Bool) (ls : List Leaf) → AreNamesIn p ls → HoldsLeaves (IsNamed p) ls
+names_of p [] h = tt
+names_of p (l ∷ ls) h = ((of_name p l.text h.0.0, of_name p l.raw h.0.1), names_of p ls h.1)
+
+pub trees_have_names : (p : ℕ → Bool) (ls : List Leaf) (es : List Event) (t : Tree) → AreNamesIn p ls → tree_of limited ls es ≡ Ok t → all_names p t ≡ true
+trees_have_names p ls es t h made = of_tree limited (IsNamed p) (names_kept p) ls es t (names_of p ls h) made
+
+-- the depth
+abbrev IsShallow : Datum → Type 0
+IsShallow d = depth_at d ≤ 512
+
+each_shallow : (ds : Data) → Each IsShallow ds → depth_in ds ≤ 512
+each_shallow none h = omega arith
+each_shallow (more d ds) h = let a : depth_at d ≤ 512 = h.0 in let b = each_shallow ds h.1 in omega (arith, a, b)
+
+shallow_node : (k : Kind) (ds : Data) (t : Tree) → limited k ds ≡ Ok t → depth t ≤ 512
+shallow_node k ds t made = let r = limited_made k ds t made in subst (λ t. depth t ≤ 512) r.same r.shallow
+
+shallow_kept : Kept limited IsShallow
+shallow_kept = record {
+  node = λ k ds t is h made. shallow_node k ds t made;
+  named = λ k n t is h made. shallow_node k (one (name n)) t made;
+  shorthand = λ ds t u h made again. shallow_node kinds.ShorthandProperty (one (child t)) u again;
+  name_of = λ t n h e. omega arith;
+  list = each_shallow;
+  no_node = omega arith; no_label = omega arith; flags = λ b. omega arith; wholes = λ n. omega arith; choices = λ n. omega arith;
+}
+
+pub trees_are_shallow : (ls : List Leaf) (es : List Event) (t : Tree) → tree_of limited ls es ≡ Ok t → depth t ≤ 512
+trees_are_shallow ls es t made = of_tree limited IsShallow shallow_kept ls es t (no_names_in IsShallow (λ n. omega arith) ls) made
