@@ -14,3 +14,6 @@ pub use around::{Flags, Label};
 pub use kinds::{Place, Role};
 pub use rules::Finding;
 pub use walk::{Step, first_early};
+
+#[cfg(test)]
+mod tests;
