@@ -2,6 +2,7 @@
 #![tactic(auto)]
 
 mod around;
+mod chosen;
 mod declares;
 mod kinds;
 mod repeats;
