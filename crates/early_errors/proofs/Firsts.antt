@@ -116,14 +116,14 @@ walked_found s a left next d rest ps n ds v w e =
 by_parts : (o : Option Violation) (rest : Option Violation) (m n : ℕ) → None ≡ o → m ≡ n → told rest m ≡ told (or_else o rest) n
 by_parts o rest m n e i = rw (sym e, i) refl
 
-pub node_more : (s : Texts) (a : Around) (n : ℕ) (t : Tree) (k : Kind) (ds : Data) (fl : Flags) (ls : List Label) (ps : List Place)
-    → branch k ds ≡ t → None ≡ first (filter_map (broken s n a t) early_rules) → ps ≡ places k → fl ≡ flags_in s (role k) ds a.flags → ls ≡ labels_in (role k) ds a.labels
+pub node_more : (s : Texts) (a : Around) (n : ℕ) (t : Tree) (k : Kind) (ds : Data) (fl : Flags) (ls : List Label) (ps : List Place) (own : Option Violation)
+    → branch k ds ≡ t → own ≡ None → own ≡ first (filter_map (broken s n a t) early_rules) → ps ≡ places k → fl ≡ flags_in s (role k) ds a.flags → ls ≡ labels_in (role k) ds a.labels
     → told (least_in s ps (record { flags = fl; labels = ls }) (n + 1) ds) (n + 1 + nodes_in ds) ≡ told (least s a n t) (n + nodes t)
-node_more s a n t k ds fl ls ps same own place flags_eq labels_eq =
+node_more s a n t k ds fl ls ps own same nothing own_is place flags_eq labels_eq =
     ap (λ p. told (least_in s p (record { flags = fl; labels = ls }) (n + 1) ds) (n + 1 + nodes_in ds)) place
     ∙ ap (λ f. told (least_in s (places k) (record { flags = f; labels = ls }) (n + 1) ds) (n + 1 + nodes_in ds)) flags_eq
     ∙ ap (λ l. told (least_in s (places k) (record { flags = flags_in s (role k) ds a.flags; labels = l }) (n + 1) ds) (n + 1 + nodes_in ds)) labels_eq
-    ∙ by_parts (first (filter_map (broken s n a (branch k ds)) early_rules)) (least_in s (places k) (parts_around s (role k) ds a) (n + 1) ds) (n + 1 + nodes_in ds) (n + (1 + nodes_in ds)) (own ∙ ap (λ u. first (filter_map (broken s n a u) early_rules)) (sym same)) (omega arith)
+    ∙ by_parts (first (filter_map (broken s n a (branch k ds)) early_rules)) (least_in s (places k) (parts_around s (role k) ds a) (n + 1) ds) (n + 1 + nodes_in ds) (n + (1 + nodes_in ds)) (sym nothing ∙ own_is ∙ ap (λ u. first (filter_map (broken s n a u) early_rules)) (sym same)) (omega arith)
     ∙ ap (λ u. told (least s a n u) (n + nodes u)) same
 
 -- a node with one

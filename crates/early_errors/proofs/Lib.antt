@@ -1,4 +1,6 @@
+pub mod Asked
 pub mod Beyond
+pub mod Choosing
 pub mod Firsts
 pub mod Inside
 mod Rows

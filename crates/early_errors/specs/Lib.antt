@@ -1,4 +1,5 @@
 pub mod Around
+pub mod Chosen
 pub mod Declares
 pub mod Early
 pub mod Kinds

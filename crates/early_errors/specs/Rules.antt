@@ -25,25 +25,30 @@ abbrev pub by_name : Option ℕ → Finding
 by_name (Some n) = Broken (Some n)
 by_name None = Holds
 
+-- what was found, where this is so
 abbrev pub if_so : Bool → Finding → Finding
-if_so true found = found
-if_so false found = Holds
+if_so asked Holds = Holds
+if_so asked (Broken name) = where_so asked name
 
 -- two lexical names of a list of statements, or of a for head, are equal (13.2.1, 13.12.1, 14.1.2, 15.1.1, 13.7.4.1)
 abbrev pub e1 : Reading → Finding
 e1 x = by_name (repeated x.lexicals)
 
 -- a lexical name of a list of statements is a var name there (13.2.1, 13.12.1, 14.1.2, 15.1.1)
-abbrev pub is_for : Role → Bool
-is_for roles.For = true
-is_for _ = false
+abbrev pub not_for : Role → Finding → Finding
+not_for roles.For found = Holds
+not_for _ found = found
 
 abbrev pub e2 : Reading → Finding
-e2 x = if_so (not (is_for x.role)) (by_name (shared x.lexicals x.vars))
+e2 x = not_for x.role (by_name (shared x.lexicals x.vars))
 
 -- a parameter name is a lexical name of the body (14.1.2, 14.2.1, 14.3.1)
+abbrev pub at_contents : Role → Finding → Finding
+at_contents roles.Contents found = found
+at_contents _ found = Holds
+
 abbrev pub e3 : Reading → Finding
-e3 x = by_name (shared x.lexicals x.parameters)
+e3 x = at_contents x.role (by_name (shared x.lexicals x.parameters))
 
 -- two parameters have one name in strict code, in a list that is not simple, in an arrow or in a method (14.1.2, 14.2.1,
 -- 14.3.1)
@@ -56,7 +61,7 @@ e4 x = if_so (x.flags.strict || (not x.simple || (x.flags.unique || is_arrow x.r
 
 -- a function whose own directives say `use strict` has parameters that are not simple (14.1.2 of the 7th edition)
 abbrev pub e5 : Reading → Finding
-e5 x = where_so (x.flags.own_strict && not x.simple) None
+e5 x = where_so (not x.simple && x.flags.own_strict) None
 
 -- `eval` or `arguments` is bound or assigned to in strict code (12.1.1, 12.4.1, 12.5.1, 12.14.1, 13.7.5.1)
 abbrev pub is_assigned : Role → Bool → Bool
@@ -68,7 +73,7 @@ abbrev pub is_restricted : List ℕ → Bool
 is_restricted t = bytes_eq t (codes "eval") || bytes_eq t (codes "arguments")
 
 abbrev pub e6 : Reading → Finding
-e6 x = where_so (x.flags.strict && (is_assigned x.role x.flags.target && has_text is_restricted x.text)) x.name
+e6 x = where_so (is_assigned x.role x.flags.target && (x.flags.strict && has_text is_restricted x.text)) x.name
 
 -- `delete` of a name in strict code (12.5.4.1)
 abbrev pub e7 : Reading → Finding
@@ -91,7 +96,7 @@ is_word roles.Continue = true
 is_word _ = false
 
 abbrev pub e8 : Reading → Finding
-e8 x = where_so (x.flags.strict && (is_word x.role && has_text is_strict_word x.text)) x.name
+e8 x = where_so (is_word x.role && (x.flags.strict && has_text is_strict_word x.text)) x.name
 
 -- a `const` declarator without initializer (13.3.1.1)
 abbrev pub e9 : Reading → Finding
@@ -112,7 +117,7 @@ is_stray roles.Continue looped breakable = not looped
 is_stray _ looped breakable = false
 
 abbrev pub e11 : Reading → Finding
-e11 x = where_so (not (is_some x.name) && is_stray x.role x.flags.looped x.flags.breakable) None
+e11 x = where_so (is_stray x.role x.flags.looped x.flags.breakable && not (is_some x.name)) None
 
 -- a label of `break` that no statement around has (13.9.1), a label of `continue` that no loop around has (13.8.1)
 abbrev pub is_around : ℕ → Bool → List Label → Bool
@@ -147,8 +152,12 @@ abbrev pub e14 : Reading → Finding
 e14 x = by_name (shared x.caught x.block)
 
 -- a name that the head of a for statement declares is a var name of its body (13.7.4.1, 13.7.5.1)
+abbrev pub at_for : Role → Finding → Finding
+at_for roles.For found = found
+at_for _ found = Holds
+
 abbrev pub e15 : Reading → Finding
-e15 x = if_so (is_for x.role) (by_name (shared x.lexicals x.vars))
+e15 x = at_for x.role (by_name (shared x.lexicals x.vars))
 
 -- a target is neither a name nor a member (12.4.1, 12.5.1, 12.14.1, 13.7.5.1)
 abbrev pub is_target : Role → Bool
@@ -159,7 +168,7 @@ is_target roles.Head = true
 is_target _ = false
 
 abbrev pub e16 : Reading → Finding
-e16 x = where_so (x.flags.target && not (is_target x.role)) None
+e16 x = where_so (not (is_target x.role) && x.flags.target) None
 
 -- a binding, a use or a label is no identifier, or is reserved everywhere (11.6.2, 12.1); the name of a member is no
 -- identifier name (11.6, 12.3)

@@ -2,6 +2,7 @@
 #![tactic(auto)]
 
 mod around;
+mod chosen;
 mod declares;
 mod kinds;
 mod repeats;
@@ -14,3 +15,6 @@ pub use around::{Flags, Label};
 pub use kinds::{Place, Role};
 pub use rules::Finding;
 pub use walk::{Step, first_early};
+
+#[cfg(test)]
+mod tests;

@@ -1,10 +1,11 @@
-ghost use Rattle.std.specs.Prelude.{◌≡◌, IfOk, is_some, option_copied};
+ghost use Rattle.std.specs.Prelude.{◌≡◌, ◌||◌, ◌&&◌, not, IfOk, is_some, option_copied};
 ghost use Rattle.bast_schema.specs.View.{data_of};
 ghost use Rattle.early_errors.specs.Repeats.{repeated, shared};
-ghost use Rattle.early_errors.specs.Declares.{lexical_names, var_names, parameter_names, caught, block_names};
+ghost use Rattle.early_errors.specs.Declares.{lexical_names, var_names, parameter_names, has_simple, caught, block_names};
 ghost use Rattle.early_errors.specs.Around.{Around};
 ghost use Rattle.early_errors.specs.Reading.{reading_by};
-ghost use Rattle.early_errors.specs.Rules.{where_so, by_name, is_for, is_arrow, is_assigned, is_word, is_return, is_stray, is_around, unknown, unknown_by, nested, nested_by, is_target, misnamed, is_unspelled, says};
+ghost use Rattle.early_errors.specs.Strict.{text_of, has_text};
+ghost use Rattle.early_errors.specs.Rules.{where_so, by_name, if_so, not_for, at_for, at_contents, is_restricted, is_strict_word, is_arrow, is_assigned, is_word, is_return, is_stray, is_around, unknown, unknown_by, nested, nested_by, is_target, misnamed, is_unspelled, says};
 
 use crate::around::{Flags, Label};
 use crate::declares::{
@@ -53,6 +54,16 @@ fn by_name(name: Option<u32>) -> Finding
     }
 }
 
+/// What was found, where this is so.
+fn if_so(asked: bool, found: Finding) -> Finding
+    ensures { result ≡ if_so asked found }
+{
+    match found {
+        Finding::Holds => Finding::Holds,
+        Finding::Broken(name) => where_so(asked, name),
+    }
+}
+
 /// Two lexical names are equal.
 fn repeated_lexical(alloc: Global, role: Role, fields: &[Value]) -> Result<Finding, Memory>
     ensures { IfOk result (λ r. r ≡ by_name (repeated (lexical_names role (data_of fields.now)))) }
@@ -73,7 +84,27 @@ fn lexical_and_var(alloc: Global, role: Role, fields: &[Value]) -> Result<Findin
     Ok(by_name(first_shared(alloc, &names, &vars)?))
 }
 
-/// A lexical name is the name of a parameter.
+/// A lexical name of a holder is a var name of it.
+fn declared_by_both(alloc: Global, role: Role, fields: &[Value]) -> Result<Finding, Memory>
+    ensures { IfOk result (λ r. r ≡ not_for role (by_name (shared (lexical_names role (data_of fields.now)) (var_names role (data_of fields.now))))) }
+{
+    match role {
+        Role::For => Ok(Finding::Holds),
+        _ => lexical_and_var(alloc, role, fields),
+    }
+}
+
+/// A name of a `for` head is a var name of the body.
+fn declared_by_head_and_body(alloc: Global, role: Role, fields: &[Value]) -> Result<Finding, Memory>
+    ensures { IfOk result (λ r. r ≡ at_for role (by_name (shared (lexical_names role (data_of fields.now)) (var_names role (data_of fields.now))))) }
+{
+    match role {
+        Role::For => lexical_and_var(alloc, role, fields),
+        _ => Ok(Finding::Holds),
+    }
+}
+
+/// A lexical name of a body is the name of a parameter.
 fn lexical_and_parameter(alloc: Global, role: Role, fields: &[Value]) -> Result<Finding, Memory>
     ensures { IfOk result (λ r. r ≡ by_name (shared (lexical_names role (data_of fields.now)) (parameter_names role (data_of fields.now)))) }
 {
@@ -82,10 +113,29 @@ fn lexical_and_parameter(alloc: Global, role: Role, fields: &[Value]) -> Result<
     Ok(by_name(first_shared(alloc, &names, &parameters)?))
 }
 
-/// Two parameters have one name.
-fn repeated_parameter(alloc: Global, role: Role, fields: &[Value]) -> Result<Finding, Memory>
-    ensures { IfOk result (λ r. r ≡ by_name (repeated (parameter_names role (data_of fields.now)))) }
+/// A parameter is declared again in the body.
+fn parameter_and_lexical(alloc: Global, role: Role, fields: &[Value]) -> Result<Finding, Memory>
+    ensures { IfOk result (λ r. r ≡ at_contents role (by_name (shared (lexical_names role (data_of fields.now)) (parameter_names role (data_of fields.now))))) }
 {
+    match role {
+        Role::Contents => lexical_and_parameter(alloc, role, fields),
+        _ => Ok(Finding::Holds),
+    }
+}
+
+/// Two parameters have one name, where this is asked.
+#[tactic(auto, using(crate::proofs::Asked::not_asked, crate::proofs::Asked::asked))]
+fn repeated_parameter(
+    alloc: Global,
+    asked: bool,
+    role: Role,
+    fields: &[Value],
+) -> Result<Finding, Memory>
+    ensures { IfOk result (λ r. r ≡ if_so asked (by_name (repeated (parameter_names role (data_of fields.now))))) }
+{
+    if !asked {
+        return Ok(Finding::Holds);
+    }
     let names = parameter_names(alloc, role, fields)?;
     Ok(by_name(first_repeat(alloc, &names)?))
 }
@@ -97,13 +147,6 @@ fn caught_and_declared(alloc: Global, role: Role, fields: &[Value]) -> Result<Fi
     let names = caught_names(alloc, role, fields)?;
     let declared = names_of_block(alloc, role, fields)?;
     Ok(by_name(first_shared(alloc, &names, &declared)?))
-}
-
-/// Whether a node is a statement with `for`.
-fn is_for_role(role: Role) -> bool
-    ensures { result ≡ is_for role }
-{
-    matches!(role, Role::For)
 }
 
 /// Whether a node is an arrow with an expression.
@@ -122,6 +165,28 @@ fn is_assigned_role(role: Role, target: bool) -> bool
         Role::Use => target,
         _ => false,
     }
+}
+
+/// Whether no two parameters may have one name.
+fn must_differ(role: Role, flags: Flags, fields: &[Value]) -> bool
+    ensures { result ≡ (flags.strict || (not (has_simple role (data_of fields.now)) || (flags.unique || is_arrow role))) }
+{
+    flags.strict || !has_simple_parameters(role, fields) || flags.unique || is_arrow_role(role)
+}
+
+/// Whether strict code binds or assigns to a name that it does not.
+fn is_restricted_here(strings: &StringTable, role: Role, flags: Flags, name: Option<u32>) -> bool
+    ensures { result ≡ (is_assigned role flags.target && (flags.strict && has_text is_restricted (text_of strings.now name))) }
+{
+    is_assigned_role(role, flags.target)
+        && (flags.strict && has_restricted(text_named(strings, name)))
+}
+
+/// Whether a word that strict code reserves stands in a node.
+fn is_strict_word_here(strings: &StringTable, role: Role, flags: Flags, name: Option<u32>) -> bool
+    ensures { result ≡ (is_word role && (flags.strict && has_text is_strict_word (text_of strings.now name))) }
+{
+    is_word_role(role) && (flags.strict && has_strict_word(text_named(strings, name)))
 }
 
 /// Whether an identifier stands in a node.
@@ -245,63 +310,27 @@ pub(crate) fn saying(
     let name = first_name_of(fields);
     match rule {
         Rule::E1 => repeated_lexical(alloc, role, fields),
-        Rule::E2 => if is_for_role(role) {
-            Ok(Finding::Holds)
-        } else {
-            lexical_and_var(alloc, role, fields)
-        },
-        Rule::E3 => lexical_and_parameter(alloc, role, fields),
-        Rule::E4 => {
-            if flags.strict
-                || !has_simple_parameters(role, fields)
-                || flags.unique
-                || is_arrow_role(role)
-            {
-                repeated_parameter(alloc, role, fields)
-            } else {
-                Ok(Finding::Holds)
-            }
-        }
+        Rule::E2 => declared_by_both(alloc, role, fields),
+        Rule::E3 => parameter_and_lexical(alloc, role, fields),
+        Rule::E4 => repeated_parameter(alloc, must_differ(role, flags, fields), role, fields),
         Rule::E5 => Ok(where_so(
-            flags.own_strict && !has_simple_parameters(role, fields),
+            !has_simple_parameters(role, fields) && flags.own_strict,
             None,
         )),
-        Rule::E6 => {
-            let broken = flags.strict
-                && is_assigned_role(role, flags.target)
-                && has_restricted(text_named(strings, name));
-            Ok(where_so(broken, name))
-        }
-        Rule::E7 => Ok(if flags.strict {
-            by_name(deleted_name(role, fields))
-        } else {
-            Finding::Holds
-        }),
-        Rule::E8 => {
-            let broken = flags.strict
-                && is_word_role(role)
-                && has_strict_word(text_named(strings, name));
-            Ok(where_so(broken, name))
-        }
-        Rule::E9 => Ok(if flags.constant {
-            by_name(bare_name(role, fields))
-        } else {
-            Finding::Holds
-        }),
+        Rule::E6 => Ok(where_so(is_restricted_here(strings, role, flags, name), name)),
+        Rule::E7 => Ok(if_so(flags.strict, by_name(deleted_name(role, fields)))),
+        Rule::E8 => Ok(where_so(is_strict_word_here(strings, role, flags, name), name)),
+        Rule::E9 => Ok(if_so(flags.constant, by_name(bare_name(role, fields)))),
         Rule::E10 => Ok(where_so(is_return_role(role) && !flags.function, None)),
         Rule::E11 => Ok(where_so(
-            name.is_none() && is_stray_role(role, flags.looped, flags.breakable),
+            is_stray_role(role, flags.looped, flags.breakable) && name.is_none(),
             None,
         )),
         Rule::E12 => Ok(unknown_jump(role, name, labels)),
         Rule::E13 => Ok(nested_label(role, name, labels)),
         Rule::E14 => caught_and_declared(alloc, role, fields),
-        Rule::E15 => if is_for_role(role) {
-            lexical_and_var(alloc, role, fields)
-        } else {
-            Ok(Finding::Holds)
-        },
-        Rule::E16 => Ok(where_so(flags.target && !is_target_role(role), None)),
+        Rule::E15 => declared_by_head_and_body(alloc, role, fields),
+        Rule::E16 => Ok(where_so(!is_target_role(role) && flags.target, None)),
         Rule::E17 => Ok(where_so(
             is_misnamed(role, name.is_some(), text_named(strings, name)),
             name,

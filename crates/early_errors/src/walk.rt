@@ -10,6 +10,7 @@ use crate::around::{
     Flags, Label, first_place, flags_of_parts, flags_of_place, is_label_of, labels_of_place,
     more_labels, rest_of_places, start_flags,
 };
+use crate::chosen::chosen_for;
 use crate::kinds::{Place, places_of, role_of};
 use crate::rules::{Finding, saying};
 use bast_base::{Memory, NameId};
@@ -17,28 +18,6 @@ use bast_schema::{Node, Value};
 use scope_facts::{Ctx, Rule, Violation};
 use std::alloc::Global;
 use string_table::StringTable;
-
-/// The rules, in order.
-static RULES: [Rule; 18] = [
-    Rule::E1,
-    Rule::E2,
-    Rule::E3,
-    Rule::E4,
-    Rule::E5,
-    Rule::E6,
-    Rule::E7,
-    Rule::E8,
-    Rule::E9,
-    Rule::E10,
-    Rule::E11,
-    Rule::E12,
-    Rule::E13,
-    Rule::E14,
-    Rule::E15,
-    Rule::E16,
-    Rule::E17,
-    Rule::E18,
-];
 
 /// The first violation, or the number behind a walk without one.
 #[derive(Clone, Copy)]
@@ -119,7 +98,8 @@ fn first_at(
 ) -> Result<Option<Violation>, Memory>
     ensures { IfOk result (λ r. r ≡ first (filter_map (broken strings.now number (record { flags = flags; labels = labels.now }) node.now) early_rules)) }
 {
-    first_of_rules(alloc, strings, &RULES, node, flags, labels, number)
+    let chosen = chosen_for(role_of(node.kind()));
+    first_of_rules(alloc, strings, chosen, node, flags, labels, number)
 }
 
 /// The first violation at a node or below it.

@@ -1,0 +1,10 @@
+use super::*;
+
+mod builder;
+mod cases;
+mod contexts;
+mod functions;
+mod names;
+mod statements;
+mod strict_code;
+mod texts;
