@@ -1,12 +1,14 @@
 pub mod Choices
 pub mod Code
 pub mod Counts
+pub mod Eager
 pub mod Falls
 pub mod Fields
 pub mod Held
 pub mod KindTable
 pub mod Kinds
 pub mod Made
+pub mod NamesHold
 pub mod Tree
 pub mod Unions
 pub mod View

@@ -16,7 +16,8 @@ use Rattle.bast_schema.proofs.Both.{and_first, and_second}
 use Rattle.container.specs.declared.layout.Layout.{Layout}
 use Rattle.container.specs.Atoms as atom
 use Rattle.container.specs.Atoms.{Atom, atoms, atoms_of, atoms_of_fields, atoms_of_items}
-use Rattle.container.specs.InFile.{InFile, is_eager, is_eager_at, are_eager, has_atom, is_unnested}
+use Rattle.bast_schema.specs.Eager.{is_eager, is_eager_at, are_eager}
+use Rattle.container.specs.InFile.{InFile, has_atom, is_unnested}
 use Rattle.container.specs.IsContainer.{IsFileOf, tables}
 use Rattle.container.specs.Spelled.{spelled}
 use Rattle.container.specs.Tables.{Tables}

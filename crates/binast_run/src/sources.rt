@@ -1,7 +1,7 @@
 // The command that reads a source.
 ghost use Rattle.std.specs.Prelude.{◌≡◌, ◌≤◌, ◌+◌, ◌<◌, ◌^◌, true, length, sum, IfOk};
 ghost use Rattle.bast_schema.specs.Counts.{is_whole, size};
-ghost use Rattle.container.specs.InFile.{is_eager};
+ghost use Rattle.bast_schema.specs.Eager.{is_eager};
 ghost use Rattle.binast_run.specs.Outcome.{answer_in};
 ghost use Rattle.binast_run.specs.Answer.{most_bytes, refusal};
 ghost use Rattle.binast_run.specs.Result.{AnswersInput};
@@ -68,7 +68,7 @@ fn refusal_of(alloc: Global, fault: SourceFault) -> Result<Outcome, Memory>
 
 // The file of a source's tree with exact scopes, where no early error stands in it.
 fn encode_tree(alloc: Global, tree: Node, strings: &StringTable) -> Result<Outcome, Memory>
-    requires size { size tree ≤ 2 ^ 27 }
+    requires size { size tree ≤ 2 ^ 26 }
     requires whole { is_whole tree ≡ true }
     requires eager { is_eager tree ≡ true }
     ensures { IfOk result (λ outcome. answer_in outcome ≡ tree_answer strings.now tree) }

@@ -7,7 +7,8 @@ use Rattle.bast_schema.specs.declared.kind.FieldType.{FieldType}
 use Rattle.bast_schema.specs.declared.kind.FieldType.TheVariants as field
 use Rattle.bast_schema.specs.declared.kind.Union.TheVariants.{Body}
 use Rattle.bast_schema.specs.Counts.{is_whole}
-use Rattle.bast_schema.specs.Fields.{fields, has_lazy}
+use Rattle.bast_schema.specs.Eager.{is_eager_at}
+use Rattle.bast_schema.specs.Fields.{fields}
 use Rattle.bast_schema.specs.Held.{Held}
 use Rattle.bast_schema.specs.Kinds.{same_kind}
 use Rattle.bast_schema.specs.Tree.{Tree, Datum, Data, branch, none, more, child, listed, kind_of, typed, depth}
@@ -17,20 +18,6 @@ use Rattle.container.specs.Container.{container}
 use Rattle.container.specs.Named.{named}
 use Rattle.container.specs.Spelled.{spelled}
 use Rattle.container.specs.Tables.{Tables}
-
--- whether no node has a lazy kind
-abbrev mutual
-  pub is_eager : Tree → Bool
-  is_eager (branch k ds) = not (has_lazy k) && are_eager ds
-
-  pub is_eager_at : Datum → Bool
-  is_eager_at (child t) = is_eager t
-  is_eager_at (listed ds) = are_eager ds
-  is_eager_at _ = true
-
-  pub are_eager : Data → Bool
-  are_eager none = true
-  are_eager (more d ds) = is_eager_at d && are_eager ds
 
 -- whether no lazy kind stands inside the contents of a lazy kind
 abbrev mutual

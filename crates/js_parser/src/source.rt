@@ -8,8 +8,8 @@ ghost use Rattle.bast_schema.specs.declared.kind.Kind.TheVariants.{Script};
 ghost use Rattle.js_parser.specs.Leaves.{Grows};
 ghost use Rattle.js_parser.specs.Source.{IsRefused, IsSource, LeavesTable, fault_of};
 ghost use Rattle.js_parser.specs.Texts.{is_text};
-ghost use Rattle.js_tree.specs.Eager.{is_eager};
-ghost use Rattle.js_tree.specs.Names.{all_names};
+ghost use Rattle.bast_schema.specs.Eager.{is_eager};
+ghost use Rattle.bast_schema.specs.NamesHold.{names_hold};
 
 use crate::leaves::leaves_of;
 use bast_base::Memory;
@@ -47,7 +47,7 @@ pub fn parse(alloc: Global, text: &str, strings: &mut StringTable) -> Result<Nod
     ensures script { IfOk result (λ tree. kind_of tree ≡ Script) }
     ensures whole { IfOk result (λ tree. is_whole tree ≡ true) }
     ensures eager { IfOk result (λ tree. is_eager tree ≡ true) }
-    ensures named { IfOk result (λ tree. all_names (is_text strings.new) tree ≡ true) }
+    ensures named { IfOk result (λ tree. names_hold (is_text strings.new) tree ≡ true) }
     ensures shallow { IfOk result (λ tree. depth tree ≤ 512) }
     ensures small { IfOk result (λ tree. size tree < 7 * (length text.now + 1)) }
     ensures size { IfOk result (λ tree. size tree ≤ 2 ^ 26) }

@@ -14,9 +14,10 @@ use Rattle.bast_schema.specs.Kinds.{same_kind, counted}
 use Rattle.bast_schema.specs.Made.{node_or, node_of}
 use Rattle.bast_schema.specs.Tree.{Tree, branch, Datum, child, absent, listed, flag, index, whole, name, no_name, choice, window, Data, none, more, first_wrong, depth, depth_at, depth_in}
 use Rattle.js_machine.specs.declared.events.Event.{Event}
-use Rattle.js_tree.specs.Eager.{is_eager, is_eager_at, are_eager}
+use Rattle.bast_schema.specs.Eager.{is_eager, is_eager_at, are_eager}
 use Rattle.js_tree.specs.Image.{image, root, tree_of}
-use Rattle.js_tree.specs.Names.{all_names, all_names_at, all_names_in, IsNameIn, AreNamesIn}
+use Rattle.bast_schema.specs.NamesHold.{names_hold, names_hold_at, names_hold_in}
+use Rattle.js_tree.specs.Names.{IsNameIn, AreNamesIn}
 use Rattle.js_tree.specs.Nodes.{Maker, one, identifier, first_name, limited, of_node}
 use Rattle.js_tree.specs.Results.{◌>>=◌}
 use Rattle.js_tree.specs.declared.fault.Fault.{Fault}
@@ -127,14 +128,14 @@ trees_are_eager ls es t made = of_tree limited IsEager eager_kept ls es t (no_na
 
 -- the names
 abbrev IsNamed : (ℕ → Bool) → Datum → Type 0
-IsNamed p d = all_names_at p d ≡ true
+IsNamed p d = names_hold_at p d ≡ true
 
-each_named : (p : ℕ → Bool) (ds : Data) → Each (IsNamed p) ds → all_names_in p ds ≡ true
+each_named : (p : ℕ → Bool) (ds : Data) → Each (IsNamed p) ds → names_hold_in p ds ≡ true
 each_named p none h = refl
-each_named p (more d ds) h = both_true (all_names_at p d) (all_names_in p ds) h.0 (each_named p ds h.1)
+each_named p (more d ds) h = both_true (names_hold_at p d) (names_hold_in p ds) h.0 (each_named p ds h.1)
 
-named_node : (p : ℕ → Bool) (k : Kind) (ds : Data) (t : Tree) → Each (IsNamed p) ds → limited k ds ≡ Ok t → all_names p t ≡ true
-named_node p k ds t h made = subst (λ t. all_names p t ≡ true) (limited_made k ds t made).same (each_named p ds h)
+named_node : (p : ℕ → Bool) (k : Kind) (ds : Data) (t : Tree) → Each (IsNamed p) ds → limited k ds ≡ Ok t → names_hold p t ≡ true
+named_node p k ds t h made = subst (λ t. names_hold p t ≡ true) (limited_made k ds t made).same (each_named p ds h)
 
 first_true : (a b : Bool) → (a && b) ≡ true → a ≡ true
 first_true true b e = refl
@@ -143,7 +144,7 @@ first_true false b e = e
 no_name_here : {A : Type 0} (n : ℕ) → None ≡ Some n → A
 no_name_here n e = cc
 
-name_first : (p : ℕ → Bool) (ds : Data) (n : ℕ) → all_names_in p ds ≡ true → first_name ds ≡ Some n → p n ≡ true
+name_first : (p : ℕ → Bool) (ds : Data) (n : ℕ) → names_hold_in p ds ≡ true → first_name ds ≡ Some n → p n ≡ true
 name_first p none n h e = no_name_here n e
 name_first p (more (child t) ds) n h e = no_name_here n e
 name_first p (more absent ds) n h e = no_name_here n e
@@ -151,16 +152,16 @@ name_first p (more (listed es) ds) n h e = no_name_here n e
 name_first p (more (flag b) ds) n h e = no_name_here n e
 name_first p (more (index i) ds) n h e = no_name_here n e
 name_first p (more (whole i) ds) n h e = no_name_here n e
-name_first p (more (name i) ds) n h e = let same : i ≡ n = cc in subst (λ n. p n ≡ true) same (first_true (p i) (all_names_in p ds) h)
+name_first p (more (name i) ds) n h e = let same : i ≡ n = cc in subst (λ n. p n ≡ true) same (first_true (p i) (names_hold_in p ds) h)
 name_first p (more no_name ds) n h e = no_name_here n e
 name_first p (more (choice i) ds) n h e = no_name_here n e
 name_first p (more (window from to) ds) n h e = no_name_here n e
 
-name_in : (p : ℕ → Bool) (b : Bool) (ds : Data) (n : ℕ) → all_names_in p ds ≡ true → cond b (first_name ds) None ≡ Some n → p n ≡ true
+name_in : (p : ℕ → Bool) (b : Bool) (ds : Data) (n : ℕ) → names_hold_in p ds ≡ true → cond b (first_name ds) None ≡ Some n → p n ≡ true
 name_in p true ds n h e = name_first p ds n h e
 name_in p false ds n h e = no_name_here n e
 
-name_of_tree : (p : ℕ → Bool) (t : Tree) (n : ℕ) → all_names p t ≡ true → identifier t ≡ Some n → p n ≡ true
+name_of_tree : (p : ℕ → Bool) (t : Tree) (n : ℕ) → names_hold p t ≡ true → identifier t ≡ Some n → p n ≡ true
 name_of_tree p (branch k ds) n h e = name_in p (same_kind k kinds.IdentifierExpression) ds n h e
 
 names_kept : (p : ℕ → Bool) → Kept limited (IsNamed p)
@@ -181,7 +182,7 @@ names_of : (p : ℕ → Bool) (ls : List Leaf) → AreNamesIn p ls → HoldsLeav
 names_of p [] h = tt
 names_of p (l ∷ ls) h = ((of_name p l.text h.0.0, of_name p l.raw h.0.1), names_of p ls h.1)
 
-pub trees_have_names : (p : ℕ → Bool) (ls : List Leaf) (es : List Event) (t : Tree) → AreNamesIn p ls → tree_of limited ls es ≡ Ok t → all_names p t ≡ true
+pub trees_have_names : (p : ℕ → Bool) (ls : List Leaf) (es : List Event) (t : Tree) → AreNamesIn p ls → tree_of limited ls es ≡ Ok t → names_hold p t ≡ true
 trees_have_names p ls es t h made = of_tree limited (IsNamed p) (names_kept p) ls es t (names_of p ls h) made
 
 -- the depth

@@ -1,4 +1,3 @@
-pub mod Eager
 pub mod Finishes
 pub mod Image
 pub mod Names

@@ -6,9 +6,10 @@ use Rattle.bast_schema.specs.Tree.{Tree, depth, kind_of}
 use Rattle.js_machine.specs.declared.events.Event.{Event}
 use Rattle.js_machine.specs.Machine.{Accepted, Ends}
 use Rattle.js_tokens.specs.declared.kinds.Token.{Token}
-use Rattle.js_tree.specs.Eager.{is_eager}
+use Rattle.bast_schema.specs.Eager.{is_eager}
 use Rattle.js_tree.specs.Image.{tree_of}
-use Rattle.js_tree.specs.Names.{all_names, AreNamesIn}
+use Rattle.bast_schema.specs.NamesHold.{names_hold}
+use Rattle.js_tree.specs.Names.{AreNamesIn}
 use Rattle.js_tree.specs.Nodes.{limited, unlimited}
 use Rattle.js_tree.specs.declared.leaf.Leaf.{Leaf}
 
@@ -22,7 +23,7 @@ TreesAreEager = (ls : List Leaf) (es : List Event) (t : Tree) → tree_of limite
 
 -- its names are those of the tokens
 abbrev pub TreesHaveNames : Type 0
-TreesHaveNames = (p : ℕ → Bool) (ls : List Leaf) (es : List Event) (t : Tree) → AreNamesIn p ls → tree_of limited ls es ≡ Ok t → all_names p t ≡ true
+TreesHaveNames = (p : ℕ → Bool) (ls : List Leaf) (es : List Event) (t : Tree) → AreNamesIn p ls → tree_of limited ls es ≡ Ok t → names_hold p t ≡ true
 
 -- it is at most 512 deep
 abbrev pub TreesAreShallow : Type 0

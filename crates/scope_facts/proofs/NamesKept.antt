@@ -18,7 +18,7 @@ use Rattle.scope_facts.specs.Entries.{declared_entries, bound_entries, rest_entr
 use Rattle.scope_facts.specs.Filled.{filled_scope, filled, filled_at, filled_in, filled_among}
 use Rattle.scope_facts.specs.Flagged.{with_flag, holds_of, entry_by, entries_by, fields_by, scope_by, flagged_scope, flagged, flagged_at, flagged_in, flagged_among}
 use Rattle.scope_facts.specs.Exact.{exact, eval_name}
-use Rattle.scope_facts.specs.NamesHold.{names_hold, names_hold_at, names_hold_in}
+use Rattle.bast_schema.specs.NamesHold.{names_hold, names_hold_at, names_hold_in}
 
 both : (a b : Bool) → a ≡ true → b ≡ true → (a && b) ≡ true
 both a b e f = rw (e, f) refl

@@ -7,7 +7,6 @@ pub mod Flagged
 pub mod Frames
 pub mod Laws
 pub mod Names
-pub mod NamesHold
 pub mod Reading
 pub mod Roles
 pub mod Uses

@@ -3,7 +3,7 @@ ghost use Rattle.std.specs.Option.{option_map};
 ghost use Rattle.bast_schema.specs.Counts.{is_whole, size};
 ghost use Rattle.bast_schema.specs.Tree.{depth};
 ghost use Rattle.scope_facts.specs.Exact.{eval_name, exact};
-ghost use Rattle.scope_facts.specs.NamesHold.{names_hold};
+ghost use Rattle.bast_schema.specs.NamesHold.{names_hold};
 
 use crate::filling::fill_node;
 use crate::flagging::flag_node;

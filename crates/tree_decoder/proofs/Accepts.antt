@@ -35,7 +35,8 @@ use Rattle.string_table.proofs.Laws.{slice_get-place_in}
 use Rattle.string_table.proofs.Search.{position-from}
 use Rattle.container.specs.Atoms as atom
 use Rattle.container.specs.Atoms.{Atom, kind, text, chosen, atoms, atoms_of, atoms_of_fields, atoms_of_items}
-use Rattle.container.specs.InFile.{has_atom, is_eager, is_eager_at, are_eager}
+use Rattle.bast_schema.specs.Eager.{is_eager, is_eager_at, are_eager}
+use Rattle.container.specs.InFile.{has_atom}
 use Rattle.container.specs.Spelled.{framed, spelled, spelled_at, spelled_items, spelled_fields}
 use Rattle.container.specs.Tables.{Tables, kind_place, text_place}
 use Rattle.tree_decoder.specs.Dues.{Due, due, dues, times, below, children, taken}

@@ -29,7 +29,8 @@ use Rattle.string_table.proofs.Laws.{slice_get-place_in}
 use Rattle.string_table.proofs.Search.{position-from}
 use Rattle.container.specs.Atoms as atom
 use Rattle.container.specs.Atoms.{Atom, kind, text, chosen, atoms, atoms_of, atoms_of_fields, atoms_of_items}
-use Rattle.container.specs.InFile.{are_eager, has_atom, is_eager, is_eager_at}
+use Rattle.bast_schema.specs.Eager.{are_eager, is_eager, is_eager_at}
+use Rattle.container.specs.InFile.{has_atom}
 use Rattle.container.specs.Spelled.{framed, spelled, spelled_at, spelled_items, spelled_fields}
 use Rattle.container.specs.Tables.{Tables, kind_place, text_place}
 use Rattle.tree_decoder.proofs.Accepts.{any_place, pattern_small, first_atom, other_atoms, front_atoms, back_atoms}

@@ -18,7 +18,7 @@ use Rattle.std.specs.Prelude.{slice_get}
 use Rattle.container.specs.Answers.{fault, ◌>>=◌}
 use Rattle.container.specs.Atoms as atom
 use Rattle.container.specs.Atoms.{Atom, atoms_of}
-use Rattle.container.specs.InFile.{is_eager_at}
+use Rattle.bast_schema.specs.Eager.{is_eager_at}
 use Rattle.container.specs.Spelled.{framed, spelled_at}
 use Rattle.container.specs.Tables.{Tables}
 use Rattle.tree_decoder.specs.Dues.{Due, due, dues, times, children, Taken, taken, atom_of, atom_at}

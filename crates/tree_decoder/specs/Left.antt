@@ -10,7 +10,7 @@ use Rattle.bast_schema.specs.Kinds.{same_kind}
 use Rattle.bast_schema.specs.Tree.{Tree, branch, Datum, child, listed, Data, none, more, fits, item_type}
 use Rattle.bast_schema.specs.Unions.{allowed}
 use Rattle.container.specs.Atoms.{Atom, kind, count, flag, index, whole, text, window, atoms_of}
-use Rattle.container.specs.InFile.{is_eager_at}
+use Rattle.bast_schema.specs.Eager.{is_eager_at}
 use Rattle.tree_decoder.specs.Dues.{Due, due, dues, times, below}
 use Rattle.container.specs.Named.{named_at}
 

@@ -20,7 +20,7 @@ use Rattle.bast_schema.proofs.Both.{and_first, and_second}
 use Rattle.container.specs.Atoms.{Atom, kind, count, flag, index, whole, text, window, chosen, atoms, atoms_of, atoms_of_fields, atoms_of_items}
 use Rattle.container.specs.Container.{container}
 use Rattle.var_numbers.specs.Varnum.{varnum}
-use Rattle.container.specs.InFile.{is_eager, is_eager_at, are_eager}
+use Rattle.bast_schema.specs.Eager.{is_eager, is_eager_at, are_eager}
 use Rattle.container.specs.Spelled.{framed, spelled, spelled_at, spelled_fields, spelled_items}
 use Rattle.container.specs.Tables.{Tables}
 use Rattle.string_table.specs.Entries.{place_in}

@@ -1,6 +1,6 @@
 ghost use Rattle.std.specs.Prelude.{◌≡◌, ◌≤◌, ◌<◌, Err, IsTrue, length, IfOk};
 ghost use Rattle.bast_schema.specs.Counts.{is_whole};
-ghost use Rattle.container.specs.InFile.{is_eager};
+ghost use Rattle.bast_schema.specs.Eager.{is_eager};
 ghost use Rattle.tree_encoder.specs.File.{file, most_bytes, texts_held};
 
 use crate::EncodeFault;

@@ -2,7 +2,7 @@
 ghost use Rattle.std.specs.Prelude.{IsTrue};
 ghost use Rattle.bast_schema.specs.Counts.{is_whole, is_whole_at, is_whole_in};
 ghost use Rattle.bast_schema.specs.View.{datum, data_of};
-ghost use Rattle.container.specs.InFile.{is_eager, is_eager_at, are_eager};
+ghost use Rattle.bast_schema.specs.Eager.{is_eager, is_eager_at, are_eager};
 
 use bast_schema::{Node, Value, is_lazy};
 

@@ -4,7 +4,7 @@ use Rattle.bast_schema.specs.Counts.{is_whole}
 use Rattle.scope_facts.specs.Exact.{exact, eval_name}
 use Rattle.scope_facts.specs.Filled.{filled}
 use Rattle.scope_facts.specs.Flagged.{flagged}
-use Rattle.scope_facts.specs.NamesHold.{names_hold}
+use Rattle.bast_schema.specs.NamesHold.{names_hold}
 use Rattle.scope_facts.proofs.WholeKept.{exact_whole}
 use Rattle.scope_facts.proofs.NamesKept.{exact_names}
 use Rattle.scope_facts.proofs.FlaggedTyped.{depth_same}
