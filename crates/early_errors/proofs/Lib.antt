@@ -5,3 +5,4 @@ pub mod Firsts
 pub mod Inside
 mod Rows
 pub mod Seen
+pub mod Sites

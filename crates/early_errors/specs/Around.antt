@@ -17,7 +17,8 @@ pub record Around : Type 0 where
   pub flags : Flags
   pub labels : List Label
 
--- whether a statement is a loop, or has labels and then a loop (LabelSet, section 13.1.7 of ECMA-262)
+-- whether a statement is a loop, or has labels and then a loop: then each of the labels is the loop's (section 13.1.3 of
+-- ECMA-262, 6th edition)
 abbrev pub looped_by : Role → Bool → Bool
 looped_by Loop body = true
 looped_by For body = true

@@ -3,7 +3,9 @@ pub mod Chosen
 pub mod Declares
 pub mod Early
 pub mod Kinds
+pub mod Laws
 pub mod Least
+pub mod Preorder
 pub mod Reading
 pub mod Repeats
 pub mod Rules

@@ -119,7 +119,7 @@ is_stray _ looped breakable = false
 abbrev pub e11 : Reading → Finding
 e11 x = where_so (is_stray x.role x.flags.looped x.flags.breakable && not (is_some x.name)) None
 
--- a label of `break` that no statement around has (13.9.1), a label of `continue` that no loop around has (13.8.1)
+-- a label of `break` that no statement around has (13.1.2), a label of `continue` that no loop around has (13.1.3)
 abbrev pub is_around : ℕ → Bool → List Label → Bool
 is_around n loop labels = list_any (λ l. nat_eq l.name n && (l.looped || not loop)) labels
 
@@ -135,7 +135,7 @@ unknown_by _ name labels = Holds
 abbrev pub e12 : Reading → Finding
 e12 x = unknown_by x.role x.name x.labels
 
--- a label inside a statement of the same label (13.13.1)
+-- a label inside a statement of the same label (13.1.1)
 abbrev pub nested : Option ℕ → List Label → Finding
 nested (Some n) labels = where_so (is_around n false labels) (Some n)
 nested None labels = Holds

@@ -5,6 +5,7 @@ mod around;
 mod chosen;
 mod declares;
 mod kinds;
+mod laws;
 mod repeats;
 mod rules;
 mod strict;
@@ -13,6 +14,7 @@ mod walk;
 
 pub use around::{Flags, Label};
 pub use kinds::{Place, Role};
+pub use laws::{each_node_is_judged, inside_is_judged_in_its_context, nodes_are_numbered};
 pub use rules::Finding;
 pub use walk::{Step, first_early};
 
