@@ -186,12 +186,12 @@ mutual
 -- ---- what an atom is spelled as stays when the tables grow
 
 -- where an atom stands in the tables, so that its place is known
-abbrev Stands : Tables → Atom → Type 0
+abbrev pub Stands : Tables → Atom → Type 0
 Stands s (kind k) = (n : ℕ) × (place_of s.kinds k ≡ Some n)
 Stands s (text entry) = (n : ℕ) × (place_in s.texts entry ≡ Some n)
 Stands s _ = Unit {0}
 
-stands_next : (s : Tables) (a : Atom) → Stands (with_atom s a) a
+pub stands_next : (s : Tables) (a : Atom) → Stands (with_atom s a) a
 stands_next s (kind k) = (_, kind_placed s.kinds k)
 stands_next s (text entry) = (_, place_in-added s.texts entry)
 stands_next s (count n) = tt
