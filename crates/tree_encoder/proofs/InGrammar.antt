@@ -1,11 +1,12 @@
 -- The file of a script is in the grammar of files.
-use Rattle.std.proofs.Common.{◌≡◌, ℕ, zero, suc, ◌+◌, ◌<◌, ◌^◌, Bool, true, false, cond, ◌||◌, ◌&&◌, List, [], ◌∷◌, ◌++◌, length, lit<, nat_lt, slice_index, get_or, Option, Some, None, refl, sym, subst, ◌∙◌}
+use Rattle.std.proofs.Common.{◌≡◌, ◌≤◌, ℕ, zero, suc, ◌+◌, ◌<◌, ◌^◌, Bool, true, false, cond, ◌||◌, ◌&&◌, List, [], ◌∷◌, ◌++◌, length, lit<, nat_lt, slice_index, get_or, Option, Some, None, refl, sym, subst, ◌∙◌}
 use Rattle.std.specs.List.{AllByRecursion, IsDistinct, list_all, list_any, position_from}
 use Rattle.std.specs.Str.{is_utf8}
 use Rattle.std.proofs.lemmas.Bool.{ltb-true}
 use Rattle.std.proofs.lemmas.Option.{none-some}
 use Rattle.std.proofs.lemmas.Str.{IsUtf8-from_ascii, is_utf8-from_IsUtf8}
 use Rattle.bast_schema.specs.declared.kind.EnumId.{EnumId}
+use Rattle.bast_schema.specs.declared.kind.Kind.TheVariants.{Script}
 use Rattle.bast_schema.specs.declared.kind.EnumId.TheVariants.{DeclaredKind, LexicalKind, ForKind, UnaryOperator, UpdateOperator, BinaryOperator, CompoundOperator}
 use Rattle.bast_schema.specs.declared.kind.FieldType.{FieldType}
 use Rattle.bast_schema.specs.declared.kind.FieldType.TheVariants as field
@@ -16,11 +17,12 @@ use Rattle.bast_schema.specs.Fields.{fields}
 use Rattle.bast_schema.specs.Held.{Held}
 use Rattle.bast_schema.specs.Kinds.{same_kind}
 use Rattle.bast_schema.specs.Tree as schema
-use Rattle.bast_schema.specs.Tree.{Tree, branch, Datum, Data, none, more, typed}
+use Rattle.bast_schema.specs.Tree.{Tree, branch, Datum, Data, none, more, depth, kind_of, typed}
 use Rattle.bast_schema.proofs.Both.{and_first, and_second}
 use Rattle.bast_schema.proofs.Distinct.{distinct_none, distinct_with_kind}
 use Rattle.container.specs.Atoms.{Atom, kind, count, flag, index, whole, text, window, chosen, atoms, atoms_of, atoms_of_fields, atoms_of_items}
 use Rattle.container.specs.InFile.{InFile, IsEntry, has_atom, is_eager, is_eager_at, are_eager, is_unnested, is_unnested_at, are_unnested, are_unnested_fields}
+use Rattle.container.specs.Named.{named}
 use Rattle.container.specs.Tables.{Tables}
 use Rattle.string_table.specs.Entries.{AreDistinct, added, is_same, place_in}
 use Rattle.string_table.proofs.Laws.{AreDistinct-added, added-new, added-there}
@@ -67,7 +69,7 @@ abbrev IsText : Atom → Type 0
 IsText (text entry) = IsEntry entry
 IsText _ = Unit {0}
 
-entries_end : (ts : List (Option (List ℕ))) (entry : Option (List ℕ)) → AllByRecursion IsEntry ts → IsEntry entry → AllByRecursion IsEntry (ts ++ entry ∷ [])
+pub entries_end : (ts : List (Option (List ℕ))) (entry : Option (List ℕ)) → AllByRecursion IsEntry ts → IsEntry entry → AllByRecursion IsEntry (ts ++ entry ∷ [])
 entries_end [] entry all one = (one, tt)
 entries_end (t ∷ ts) entry all one = (all.0, entries_end ts entry all.1 one)
 
@@ -337,19 +339,23 @@ mutual
 
 -- ---- the file
 
-pub file_in_grammar : (h : Held) (t : Tree) → IsNamedScript h t → length (file h t) < 2 ^ 32 → InFile (file h t) h t
-file_in_grammar h t is small =
+pub file_in_grammar : (h : Held) (t : Tree) → kind_of t ≡ Script → typed t ≡ true → depth t ≤ 512 → is_whole t ≡ true → is_eager t ≡ true → named h t ≡ true → AllByRecursion IsEntry (tables_of h t).texts → length (file h t) < 2 ^ 32 → InFile (file h t) h t
+file_in_grammar h t script ok shallow no_windows eager names entries small =
     let none_used : Tables = record { kinds = []; texts = [] } in
     record {
       tables = tables_of h t;
       distinct_kinds = kinds_distinct none_used (atoms h t) distinct_none;
       distinct_texts = texts_distinct none_used (atoms h t) none_distinct;
-      entries = entries_all none_used (atoms h t) (tree_texts h is.texts t) tt;
+      entries = entries;
       has_all = all_had none_used (atoms h t);
-      named = is.named;
+      named = names;
       spelling = refl;
       small = small;
-      script = is.script;
-      typed_whole = both (typed t && is_whole t) (is_unnested t) (both (typed t) (is_whole t) is.typed is.whole) (unnested_tree t is.eager);
-      shallow = is.shallow;
+      script = script;
+      typed_whole = both (typed t && is_whole t) (is_unnested t) (both (typed t) (is_whole t) ok no_windows) (unnested_tree t eager);
+      shallow = shallow;
     }
+
+pub script_in_grammar : (h : Held) (t : Tree) → IsNamedScript h t → length (file h t) < 2 ^ 32 → InFile (file h t) h t
+script_in_grammar h t is small =
+    file_in_grammar h t is.script is.typed is.shallow is.whole is.eager is.named (entries_all (record { kinds = []; texts = [] }) (atoms h t) (tree_texts h is.texts t) tt) small

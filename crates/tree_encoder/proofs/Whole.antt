@@ -283,3 +283,7 @@ pub file_of_writer : (w : Writer) (first : Written) (h : Held) (t : Tree) → is
     → container (record { kinds = w.kinds; texts = w.texts }) w.bytes.items ≡ file h t
 file_of_writer w first h t no_windows eager begins is =
     ap (λ (x : Written). container x.tables x.bytes) (is ∙ ap (λ (x : Written). written x (atoms h t)) begins ∙ tree_written h t no_windows eager)
+
+pub texts_of_writer : (w : Writer) (first : Written) (h : Held) (t : Tree) → is_whole t ≡ true → is_eager t ≡ true → first ≡ start → so_far w ≡ written first (atoms h t) → w.texts ≡ (tables_of h t).texts
+texts_of_writer w first h t no_windows eager begins is =
+    ap (λ (x : Written). x.tables.texts) (is ∙ ap (λ (x : Written). written x (atoms h t)) begins ∙ tree_written h t no_windows eager)
