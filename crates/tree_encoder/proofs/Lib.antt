@@ -1,3 +1,4 @@
+pub mod InGrammar
 pub mod Lengths
 pub mod Stay
 pub mod Walk

@@ -186,12 +186,12 @@ mutual
 -- ---- what an atom is spelled as stays when the tables grow
 
 -- where an atom stands in the tables, so that its place is known
-abbrev Stands : Tables → Atom → Type 0
+abbrev pub Stands : Tables → Atom → Type 0
 Stands s (kind k) = (n : ℕ) × (place_of s.kinds k ≡ Some n)
 Stands s (text entry) = (n : ℕ) × (place_in s.texts entry ≡ Some n)
 Stands s _ = Unit {0}
 
-stands_next : (s : Tables) (a : Atom) → Stands (with_atom s a) a
+pub stands_next : (s : Tables) (a : Atom) → Stands (with_atom s a) a
 stands_next s (kind k) = (_, kind_placed s.kinds k)
 stands_next s (text entry) = (_, place_in-added s.texts entry)
 stands_next s (count n) = tt
@@ -283,3 +283,7 @@ pub file_of_writer : (w : Writer) (first : Written) (h : Held) (t : Tree) → is
     → container (record { kinds = w.kinds; texts = w.texts }) w.bytes.items ≡ file h t
 file_of_writer w first h t no_windows eager begins is =
     ap (λ (x : Written). container x.tables x.bytes) (is ∙ ap (λ (x : Written). written x (atoms h t)) begins ∙ tree_written h t no_windows eager)
+
+pub texts_of_writer : (w : Writer) (first : Written) (h : Held) (t : Tree) → is_whole t ≡ true → is_eager t ≡ true → first ≡ start → so_far w ≡ written first (atoms h t) → w.texts ≡ (tables_of h t).texts
+texts_of_writer w first h t no_windows eager begins is =
+    ap (λ (x : Written). x.tables.texts) (is ∙ ap (λ (x : Written). written x (atoms h t)) begins ∙ tree_written h t no_windows eager)

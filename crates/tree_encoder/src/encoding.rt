@@ -1,6 +1,10 @@
 ghost use Rattle.std.specs.Prelude.{◌≡◌, ◌≤◌, ◌<◌, Err, IsTrue, length, IfOk};
 ghost use Rattle.bast_schema.specs.Counts.{is_whole};
 ghost use Rattle.bast_schema.specs.Eager.{is_eager};
+ghost use Rattle.bast_schema.specs.Tree.{kind_of};
+ghost use Rattle.bast_schema.specs.declared.kind.Kind.TheVariants.{Script};
+ghost use Rattle.container.specs.InFile.{InFile};
+ghost use Rattle.container.specs.Named.{named};
 ghost use Rattle.tree_encoder.specs.File.{file, most_bytes, texts_held};
 
 use crate::EncodeFault;
@@ -20,10 +24,11 @@ pub fn encode(alloc: Global, tree: &Node, strings: &StringTable) -> Result<Vec<u
     requires eager { IsTrue (is_eager tree.now) }
     ensures file { IfOk result (λ bytes. bytes.items ≡ file (texts_held strings.now) tree.now) }
     ensures within { IfOk result (λ bytes. length bytes.items ≤ most_bytes) }
+    ensures in_grammar { IfOk result (λ bytes. kind_of tree.now ≡ Script → IsTrue (named (texts_held strings.now) tree.now) → InFile bytes.items (texts_held strings.now) tree.now) }
     ensures too_large { result ≡ Err EncodeFault.TooLarge → most_bytes < length (file (texts_held strings.now) tree.now) }
 {
-    // So the proof knows that the tree is well typed.
-    let _kind = tree.kind();
+    // So the proof knows that the tree is well typed and not too deep.
+    let (_kind, _depth) = (tree.kind(), tree.depth());
     let mut writer = Writer::new(alloc, strings)?;
     put_node(tree, strings, &mut writer)?;
     if !is_small(&writer.kinds, &writer.texts, &writer.bytes) {

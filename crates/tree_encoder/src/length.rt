@@ -1,7 +1,10 @@
 // How long a file is, before it is made.
-ghost use Rattle.std.specs.Prelude.{◌≡◌, ◌≤◌, ◌<◌, ◌+◌, ◌↔◌, IsTrue, None, get_or, length};
+ghost use Rattle.std.specs.Prelude.{◌≡◌, ◌≤◌, ◌<◌, ◌+◌, ◌↔◌, IsTrue, None, get_or, length, OnSome};
+ghost use Rattle.std.specs.List.{AllByRecursion};
+ghost use Rattle.std.specs.Str.{is_utf8};
 ghost use Rattle.container.specs.Clauses.{kind_entries, text_entries};
 ghost use Rattle.container.specs.Container.{container, entry_bytes};
+ghost use Rattle.container.specs.InFile.{IsEntry};
 ghost use Rattle.tree_encoder.specs.File.{most_bytes, Within};
 ghost use Rattle.var_numbers.specs.Varnum.{varnum};
 
@@ -14,7 +17,8 @@ use var_numbers::varnum_len;
 // Whether the file over these tables and these bytes of a tree has no more bytes than a file may have.
 pub(crate) fn is_small(kinds: &KindTable, texts: &StringTable, tree: &[u8]) -> bool
     requires { length tree.now ≤ most_bytes }
-    ensures { IsTrue result ↔ (length (container (record { kinds = kinds.now; texts = texts.now }) tree.now) ≤ most_bytes) }
+    ensures small { IsTrue result ↔ (length (container (record { kinds = kinds.now; texts = texts.now }) tree.now) ≤ most_bytes) }
+    ensures entries { IsTrue result → AllByRecursion IsEntry texts.now }
 {
     let (Some(names), Some(entries)) = (names_len(kinds.as_slice()), entries_len(texts)) else {
         return false;
@@ -53,7 +57,8 @@ fn names_len(kinds: &[Kind]) -> Option<u32>
 
 // How long the entries are, each behind its length, unless they are longer than a file.
 fn entries_len(texts: &StringTable) -> Option<u32>
-    ensures { Within result (length (text_entries texts.now)) }
+    ensures len { Within result (length (text_entries texts.now)) }
+    ensures entries { OnSome result (AllByRecursion IsEntry texts.now) }
 {
     let mut total = 0;
     'places: for place in 0..texts.len() {
@@ -65,15 +70,24 @@ fn entries_len(texts: &StringTable) -> Option<u32>
     Some(total)
 }
 
-// How long an entry is.
+// How long an entry is, which is a text or the absent string.
 fn entry_len(texts: &StringTable, place: u32) -> usize
     requires { place < length texts.now }
-    ensures { result ≡ length (entry_bytes (get_or texts.now place None)) }
+    ensures len { result ≡ length (entry_bytes (get_or texts.now place None)) }
+    ensures entry { IsEntry (get_or texts.now place None) }
 {
     match texts.text(NameId(place)) {
-        Some(text) => text.len(),
+        Some(text) => text_len(text),
         None => 2,
     }
+}
+
+// How long a text is.
+fn text_len(text: &str) -> usize
+    ensures len { result ≡ length text.now }
+    ensures text { IsTrue (is_utf8 text.now) }
+{
+    text.len()
 }
 
 // So many bytes, and so many more behind their length, unless they are longer than a file.

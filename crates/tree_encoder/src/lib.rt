@@ -3,6 +3,7 @@
 
 mod encoding;
 mod fault;
+mod laws;
 mod length;
 mod nodes;
 mod numbers;
@@ -12,3 +13,4 @@ mod writer;
 
 pub use encoding::encode;
 pub use fault::EncodeFault;
+pub use laws::files_are_in_grammar;
