@@ -1,4 +1,5 @@
 pub mod EagerKept
+pub mod ExactNamed
 pub mod FileAnswers
 pub mod FirstAtoms
 pub mod FirstKinds

@@ -5,7 +5,7 @@ use Rattle.std.specs.Str.Lossy.{utf8_valid_len}
 use Rattle.bast_schema.specs.Tree.{Tree}
 use Rattle.binast_run.specs.Answer.{Answer as Outcome, refusal}
 use Rattle.binast_run.specs.SourceLines.{fault_text, not_utf8_text, source_line}
-use Rattle.binast_run.specs.Sources.{AnswersSource, no_text, no_tree, has_tree, tree_answer}
+use Rattle.binast_run.specs.Sources.{AnswersSource, IsSpelled, no_text, no_tree, has_tree, tree_answer}
 use Rattle.js_parser.specs.Laws.{Answer, uncut, stopped, made, IsAnswer}
 use Rattle.js_parser.specs.Source.{IsRefused, IsSource, fault_of}
 use Rattle.js_parser.specs.declared.source.SourceFault.{SourceFault}
@@ -29,15 +29,16 @@ fault_answer input text none texts fault a same is_none is refused answer =
     subst (λ (x : Outcome). AnswersSource input x) (sym answer.1) (no_tree fault texts is answer.0 (rw (same, is_none) at refused))
 
 made_answer : (input text : List ℕ) (none texts : List (Option (List ℕ))) (t : Tree) (a : Outcome) → text ≡ input → none ≡ [] → IsUtf8 input → IsSource text none texts (Ok t)
-    → a ≡ tree_answer texts t → AnswersSource input a
-made_answer input text none texts t a same is_none is source answer =
-    subst (λ (x : Outcome). AnswersSource input x) (sym answer) (has_tree texts t is (rw (same, is_none) at source))
+    → a ≡ tree_answer texts t → IsSpelled texts t a → AnswersSource input a
+made_answer input text none texts t a same is_none is source answer spelled =
+    subst (λ (x : Outcome). AnswersSource input x) (sym answer) (has_tree texts t is (rw (same, is_none) at source) (rw answer at spelled))
 
 -- what was made of the tree of a text answers the source, where memory did not run out
 pub made_answers : (input text : List ℕ) (none texts : List (Option (List ℕ))) (t : Tree) (r : Result Made Memory) → text ≡ input → none ≡ [] → IsUtf8 input → IsSource text none texts (Ok t)
-    → IfOk r (λ outcome. answer_in outcome ≡ tree_answer texts t) → IfOk r (λ outcome. AnswersSource input (answer_in outcome))
-made_answers input text none texts t (Ok outcome) same is_none is source answer = made_answer input text none texts t (answer_in outcome) same is_none is source answer
-made_answers input text none texts t (Err e) same is_none is source answer = tt
+    → IfOk r (λ outcome. answer_in outcome ≡ tree_answer texts t) → IfOk r (λ outcome. IsSpelled texts t (answer_in outcome))
+    → IfOk r (λ outcome. AnswersSource input (answer_in outcome))
+made_answers input text none texts t (Ok outcome) same is_none is source answer spelled = made_answer input text none texts t (answer_in outcome) same is_none is source answer spelled
+made_answers input text none texts t (Err e) same is_none is source answer spelled = tt
 
 -- and so does the line of its refusal
 pub fault_answers : (input text : List ℕ) (none texts : List (Option (List ℕ))) (fault : SourceFault) (r : Result Made Memory) → text ≡ input → none ≡ [] → IsUtf8 input
@@ -87,13 +88,13 @@ same_tree r s t u p q e = cc
 pub one_answer : (input : List ℕ) (a b : Outcome) → AnswersSource input a → AnswersSource input b → a ≡ b
 one_answer input _ _ (no_text p) (no_text q) = refl
 one_answer input _ _ (no_text p) (no_tree f texts is no_memory q) = absurd (p is)
-one_answer input _ _ (no_text p) (has_tree texts t is q) = absurd (p is)
+one_answer input _ _ (no_text p) (has_tree texts t is q s) = absurd (p is)
 one_answer input _ _ (no_tree f texts is no_memory p) (no_text q) = absurd (q is)
 one_answer input _ _ (no_tree f texts is no_memory p) (no_tree g more is' no_memory' q) =
     ap (λ (x : SourceFault). refusal (source_line (fault_text x))) (one_fault input f g (refusing input texts f no_memory p) (refusing input more g no_memory' q))
-one_answer input _ _ (no_tree f texts is no_memory p) (has_tree more t is' q) = absurd (no_fault input more t f (refusing input texts f no_memory p) q)
-one_answer input _ _ (has_tree texts t is p) (no_text q) = absurd (q is)
-one_answer input _ _ (has_tree texts t is p) (no_tree f more is' no_memory q) = absurd (no_fault input texts t f (refusing input more f no_memory q) p)
-one_answer input _ _ (has_tree texts t is p) (has_tree more u is' q) =
+one_answer input _ _ (no_tree f texts is no_memory p) (has_tree more t is' q s) = absurd (no_fault input more t f (refusing input texts f no_memory p) q)
+one_answer input _ _ (has_tree texts t is p s) (no_text q) = absurd (q is)
+one_answer input _ _ (has_tree texts t is p s) (no_tree f more is' no_memory q) = absurd (no_fault input texts t f (refusing input more f no_memory q) p)
+one_answer input _ _ (has_tree texts t is p s) (has_tree more u is' q r) =
     let same = one_tree input [] texts more (Ok t) (Ok u) p q
     in ap (λ (x : List (Option (List ℕ))). tree_answer x t) same.0 ∙ ap (λ (x : Tree). tree_answer more x) (same_tree (Ok t) (Ok u) t u refl refl same.1)

@@ -1,4 +1,4 @@
--- The kinds that a first source makes, and the first node of a tree that is of another.
+-- The kinds of which a file may have a tree yet: those of a script of whole numbers. And the first node of another kind.
 use Rattle.std.specs.Prelude.{ℕ, Bool, true, false, not, List, [], ◌∷◌, ◌+◌, ◌++◌, Option, Result, Ok, Err, if◌then◌else◌}
 use Rattle.std.specs.List.{position_from}
 use Rattle.bast_schema.specs.declared.kind.Kind.{Kind}

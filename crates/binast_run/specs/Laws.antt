@@ -1,4 +1,4 @@
--- What holds of every first source, and of every file that is read.
+-- What holds of every file that is read, and of every answer.
 use Rattle.std.specs.Prelude.{◌≡◌, ℕ, ◌<◌, ◌≤◌, ◌^◌, List, length, IsTrue, None}
 use Rattle.std.specs.List.{All}
 use Rattle.bast_schema.specs.Counts.{is_whole}

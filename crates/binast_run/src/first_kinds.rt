@@ -1,4 +1,4 @@
-// The kinds that a first source makes, and the first node of a tree that is of another.
+// The kinds of which a file may have a tree yet: those of a script of whole numbers. And the first node of another kind.
 ghost use Rattle.std.specs.Prelude.{◌≡◌, ◌<◌, ◌+◌, ◌^◌};
 ghost use Rattle.bast_schema.specs.Tree.{nodes, nodes_at, nodes_in};
 ghost use Rattle.bast_schema.specs.View.{datum, data_of};
@@ -6,7 +6,7 @@ ghost use Rattle.binast_run.specs.FirstKinds.{is_first, first_other, kinds_of, k
 
 use bast_schema::{Kind, Node, Value};
 
-// The number, in preorder from 0, of the first node whose kind no first source makes.
+// The number, in preorder from 0, of the first node whose kind is none of those.
 pub(crate) fn first_other_of(tree: &Node) -> Option<u32>
     requires { nodes tree.now < 2 ^ 32 }
     ensures { result ≡ first_other tree.now }
@@ -56,7 +56,7 @@ fn walk_value(value: &Value, number: u32) -> Result<u32, u32>
     }
 }
 
-// Whether a first source makes nodes of this kind.
+// Whether it is one of those kinds.
 fn is_first(kind: Kind) -> bool
     ensures { result ≡ is_first kind }
 {

@@ -2,12 +2,16 @@
 ghost use Rattle.std.specs.Prelude.{◌≡◌, ◌≤◌, ◌+◌, ◌<◌, ◌^◌, true, length, sum, IfOk};
 ghost use Rattle.bast_schema.specs.Counts.{is_whole, size};
 ghost use Rattle.bast_schema.specs.Eager.{is_eager};
+ghost use Rattle.bast_schema.specs.NamesHold.{names_hold};
+ghost use Rattle.bast_schema.specs.Tree.{kind_of};
+ghost use Rattle.bast_schema.specs.declared.kind.Kind.TheVariants.{Script};
 ghost use Rattle.binast_run.specs.Outcome.{answer_in};
 ghost use Rattle.binast_run.specs.Answer.{most_bytes, refusal};
 ghost use Rattle.binast_run.specs.Result.{AnswersInput};
 ghost use Rattle.binast_run.specs.SourceLines.{fault_text, source_line};
-ghost use Rattle.binast_run.specs.Sources.{tree_answer, AnswersSource};
+ghost use Rattle.binast_run.specs.Sources.{tree_answer, AnswersSource, IsSpelled};
 ghost use Rattle.binast_run.specs.declared.command.Command.TheVariants.{EncodeEager};
+ghost use Rattle.js_parser.specs.Texts.{is_text};
 ghost use Rattle.js_parser.specs.declared.source.SourceFault.TheVariants.{Memory as NoMemory};
 
 use crate::lines::large_file_line;
@@ -71,7 +75,10 @@ fn encode_tree(alloc: Global, tree: Node, strings: &StringTable) -> Result<Outco
     requires size { size tree ≤ 2 ^ 26 }
     requires whole { is_whole tree ≡ true }
     requires eager { is_eager tree ≡ true }
-    ensures { IfOk result (λ outcome. answer_in outcome ≡ tree_answer strings.now tree) }
+    requires script { kind_of tree ≡ Script }
+    requires named { names_hold (is_text strings.now) tree ≡ true }
+    ensures answer { IfOk result (λ outcome. answer_in outcome ≡ tree_answer strings.now tree) }
+    ensures spelled { IfOk result (λ outcome. IsSpelled strings.now tree (answer_in outcome)) }
 {
     if let Some(violation) = first_early(alloc, &tree, &Ctx::script(alloc), strings)? {
         return Ok(refused(violation_line(alloc, violation, strings)?));

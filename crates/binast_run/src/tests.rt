@@ -483,7 +483,7 @@ fn refuses_each_front_of_a_file(rt: HostRuntime) -> Result<(), Fail> {
 }
 
 #[test]
-fn refuses_kinds_that_no_list_of_numbers_makes(rt: HostRuntime) -> Result<(), Fail> {
+fn refuses_files_of_other_kinds_yet(rt: HostRuntime) -> Result<(), Fail> {
     let alloc = rt.alloc();
     let file =
         b"BINJS\x02[GRAMMAR]identity;\x62\x06\x0CScript\x32AssertedScriptGlobalScope\x1CEmptyStatement[STRINGS]identity;\x02\x00[TREE]identity;\x0E\x00\x00\x02\x00\x00\x02\x04";

@@ -9,7 +9,7 @@ returns-in-Err c =
 pub returns-in-Ok-parse : goal.returns-in-Ok-parse
 returns-in-Ok-parse c =
     made_answers c.args.bytes.now c.in-Ok.text.now c.new-strings.result c.parse.new.strings c.in-Ok-parse.tree c.encode_tree.result c.in-Ok.ensures.cases.0 c.new-strings.ensures c.in-Ok.ensures.cases.1
-    c.in-Ok-parse.ensures.tree c.encode_tree.ensures
+    c.in-Ok-parse.ensures.tree c.encode_tree.ensures.answer c.encode_tree.ensures.spelled
 
 pub returns : goal.returns
 returns c =
