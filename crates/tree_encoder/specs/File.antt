@@ -1,5 +1,5 @@
 -- The file of a tree.
-use Rattle.std.specs.Prelude.{◌≡◌, ℕ, ◌<◌, ◌≤◌, List, [], ◌∷◌, Option, Some, None}
+use Rattle.std.specs.Prelude.{ℕ, List, [], ◌∷◌, Option}
 use Rattle.bast_schema.specs.Held.{Held}
 use Rattle.bast_schema.specs.KindTable.{with_kind}
 use Rattle.bast_schema.specs.Tree.{Tree}
@@ -35,8 +35,3 @@ texts_held texts = record { texts = texts; tape = [] }
 -- how many bytes a file may have
 abbrev pub most_bytes : ℕ
 most_bytes = 8388608
-
--- a length that no file passes, or none where it is passed
-abbrev pub Within : Option ℕ → ℕ → Type 0
-Within (Some n) len = (n ≡ len) × (len ≤ most_bytes)
-Within None len = most_bytes < len

@@ -5,7 +5,8 @@ ghost use Rattle.std.specs.Str.{is_utf8};
 ghost use Rattle.container.specs.Clauses.{kind_entries, text_entries};
 ghost use Rattle.container.specs.Container.{container, entry_bytes};
 ghost use Rattle.container.specs.InFile.{IsEntry};
-ghost use Rattle.tree_encoder.specs.File.{most_bytes, Within};
+ghost use Rattle.tree_encoder.specs.File.{most_bytes};
+ghost use Rattle.tree_encoder.specs.Length.{Within};
 ghost use Rattle.var_numbers.specs.Varnum.{varnum};
 
 use crate::writer::MOST_BYTES;
