@@ -1,5 +1,6 @@
 pub mod Broken
 pub mod Finishing
+pub mod Following
 pub mod Gathering
 pub mod HeftFinishes
 pub mod Hefts
