@@ -1,10 +1,12 @@
 pub mod Broken
 pub mod Finishing
+pub mod FollowSteps
 pub mod Following
 pub mod Gathering
 pub mod HeftFinishes
 pub mod Hefts
 pub mod Holding
+pub mod Laying
 pub mod Payments
 pub mod Runs
 pub mod Scripts

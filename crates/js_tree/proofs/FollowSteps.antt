@@ -1,0 +1,206 @@
+-- What the steps of a recipe gather with the limit follows what they gather without it.
+use Rattle.std.proofs.Common.{◌≡◌, ◌≤◌, ◌<◌, ◌+◌, ℕ, max, cond, Bool, true, false, not, ◌&&◌, List, [], ◌∷◌, ◌++◌, Option, Some, None, Result, Ok, Err, refl, sym, ap, ◌∙◌, subst, arith}
+use Rattle.bast_base.specs.declared.errors.NameId.{NameId}
+use Rattle.bast_schema.specs.declared.kind.EnumId.{EnumId}
+use Rattle.bast_schema.specs.declared.kind.Kind.{Kind}
+use Rattle.bast_schema.specs.declared.kind.Kind.TheVariants as kinds
+use Rattle.bast_schema.specs.Counts.{join}
+use Rattle.bast_schema.specs.Tree.{Tree, branch, Datum, child, absent, listed, flag, index, whole, name, no_name, choice, window, Data, none, more, depth, depth_at, depth_in}
+use Rattle.js_grammar.specs.declared.symbols.Symbol.{Symbol}
+use Rattle.js_tree.specs.Nodes.{one, two, no_names, no_parameter_names, limited, unlimited, statements, behind_directive, behind_directives, directives, directives_from}
+use Rattle.js_tree.specs.Operators.{operator}
+use Rattle.js_tree.specs.Parts.{first_value, one_value, without_top, taken_leaf, taken_values, taken_endings, taken_items}
+use Rattle.js_tree.specs.Results.{◌>>=◌, there, broken}
+use Rattle.js_tree.specs.Steps.{Gathered, gather, gathered, with_value, with_node, step_on, skip, put, operand, wrap, text, number, whole_number, named, quoted, with_operator, parameter_of, parameter, template_part, tail, rest, with_statements, body, hold, resume, closed}
+use Rattle.js_tree.specs.declared.fault.Fault.{Fault}
+use Rattle.js_tree.specs.declared.leaf.Leaf.{Leaf}
+use Rattle.js_tree.specs.declared.parts.Part.{Part}
+use Rattle.js_tree.specs.declared.parts.Part.TheVariants as parts
+use Rattle.js_tree.specs.declared.parts.Ending.{Ending}
+use Rattle.js_tree.specs.declared.parts.Item.{Item}
+use Rattle.js_tree.specs.declared.recipe.Step.{Step}
+use Rattle.js_tree.specs.declared.recipe.Step.TheVariants as steps
+use Rattle.js_tree.specs.declared.work.Work.{Work}
+use Rattle.js_tree.proofs.Holding.{Holds, each_result}
+use Rattle.js_tree.proofs.Following.{mapped, Follows, done, failed, alike, known, weaker, andthen, Flat, FlatIn, FlatEndings, FlatItems, FlatPart, FlatParts, FlatWork, FlatGot, flat_join, flat_endings, node_follows}
+use Rattle.js_tree.proofs.Laying.{AllPlain, PlainEnds, SmallIf, SmallTree, RawItems, RawPart, LeafIf, PlainIf, is_leaf, is_plain, Suits, Laid, Flow, Empty, adds, with_raw, with_tail, with_rest, with_body, holds, resumes, takes_one, takes_two, behind, may_step, left_by, after, may_all, left_by_all, after_all}
+
+abbrev pub Stepped : Flow → List Symbol → Work × List Part → Type 0
+Stepped b xs r = Empty b r.0 × Laid xs r.1
+
+abbrev pub Nothing : {A : Type 0} → A → Type 0
+Nothing x = Unit {0}
+
+-- what a result is no part of
+pub keep : {A : Type 0} (S : Type 0) (r : Result A Fault) → Follows S (λ x. S) (λ x. Unit {0}) r r
+keep S r = alike S (λ x. S) (λ x. Unit {0}) r (each_result (λ x. S → S) r (λ x e s. s)) (each_result (λ x. Unit {0}) r (λ x e. tt))
+
+pub leaf_follows : (C : Type 0) (x : Symbol) (xs : List Symbol) (ps : List Part) → Laid (x ∷ xs) ps → Follows (C × FlatParts ps) (λ l. C × FlatParts l.1) (λ l. Laid xs l.1) (taken_leaf ps) (taken_leaf ps)
+leaf_follows C x xs [] laid = failed _ _ _
+leaf_follows C x xs (parts.Token l ∷ ps) laid = done _ _ _ (l, ps) (λ h. (h.0, (tt, h.1))) laid.1
+leaf_follows C x xs (parts.Counted ∷ ps) laid = failed _ _ _
+leaf_follows C x xs (parts.Values ds raw ∷ ps) laid = failed _ _ _
+leaf_follows C x xs (parts.Endings es ∷ ps) laid = failed _ _ _
+leaf_follows C x xs (parts.Items is ∷ ps) laid = failed _ _ _
+
+abbrev FlatValues : Type 0 → (Data × Option NameId) × List Part → Type 0
+FlatValues C v = C × FlatIn v.0.0 × FlatParts v.1
+
+abbrev KnownValues : List Symbol → (Data × Option NameId) × List Part → Type 0
+KnownValues xs v = SmallIf v.0.1 v.0.0 × Laid xs v.1
+
+pub values_follows : (C : Type 0) (x : Symbol) (xs : List Symbol) (ps : List Part) → Laid (x ∷ xs) ps → Follows (C × FlatParts ps) (FlatValues C) (KnownValues xs) (taken_values ps) (taken_values ps)
+values_follows C x xs [] laid = failed _ _ _
+values_follows C x xs (parts.Token l ∷ ps) laid = failed _ _ _
+values_follows C x xs (parts.Counted ∷ ps) laid = failed _ _ _
+values_follows C x xs (parts.Values ds raw ∷ ps) laid = done _ _ _ ((ds, raw), ps) (λ h. (h.0, (h.1, h.2))) (laid.0.small, laid.1)
+values_follows C x xs (parts.Endings es ∷ ps) laid = failed _ _ _
+values_follows C x xs (parts.Items is ∷ ps) laid = failed _ _ _
+
+abbrev FlatTaken : Type 0 → List Ending × List Part → Type 0
+FlatTaken C e = C × FlatEndings e.0 × FlatParts e.1
+
+abbrev KnownEndings : Bool → List Symbol → List Ending × List Part → Type 0
+KnownEndings p xs e = PlainEnds p e.0 × Laid xs e.1
+
+endings_follows : (C : Type 0) (x : Symbol) (xs : List Symbol) (ps : List Part) → Laid (x ∷ xs) ps → Follows (C × FlatParts ps) (FlatTaken C) (KnownEndings (is_plain x) xs) (taken_endings ps) (taken_endings ps)
+endings_follows C x xs [] laid = failed _ _ _
+endings_follows C x xs (parts.Token l ∷ ps) laid = failed _ _ _
+endings_follows C x xs (parts.Counted ∷ ps) laid = failed _ _ _
+endings_follows C x xs (parts.Values ds raw ∷ ps) laid = failed _ _ _
+endings_follows C x xs (parts.Endings es ∷ ps) laid = done _ _ _ (es, ps) (λ h. (h.0, (h.1, h.2))) (laid.0.plain, laid.1)
+endings_follows C x xs (parts.Items is ∷ ps) laid = failed _ _ _
+
+abbrev FlatList : Type 0 → List Item × List Part → Type 0
+FlatList C i = C × FlatItems i.0 × FlatParts i.1
+
+abbrev KnownItems : List Symbol → List Item × List Part → Type 0
+KnownItems xs i = RawItems i.0 × Laid xs i.1
+
+items_follows : (C : Type 0) (x : Symbol) (xs : List Symbol) (ps : List Part) → Laid (x ∷ xs) ps → Follows (C × FlatParts ps) (FlatList C) (KnownItems xs) (taken_items ps) (taken_items ps)
+items_follows C x xs [] laid = failed _ _ _
+items_follows C x xs (parts.Token l ∷ ps) laid = failed _ _ _
+items_follows C x xs (parts.Counted ∷ ps) laid = failed _ _ _
+items_follows C x xs (parts.Values ds raw ∷ ps) laid = failed _ _ _
+items_follows C x xs (parts.Endings es ∷ ps) laid = failed _ _ _
+items_follows C x xs (parts.Items is ∷ ps) laid = done _ _ _ (is, ps) (λ h. (h.0, (h.1, h.2))) (laid.0.small, laid.1)
+
+pub first_follows : (C : Type 0) (ds : Data) → Follows (C × FlatIn ds) (λ f. C × (depth_at f.0 ≤ 512) × FlatIn f.1) (λ f. Unit {0}) (first_value ds) (first_value ds)
+first_follows C none = failed _ _ _
+first_follows C (more d ds) = done _ _ _ (d, ds) (λ h. let a : depth_at d ≤ 512 = h.1 in let b : depth_in ds ≤ 512 = h.2 in (h.0, omega (arith, a, b))) tt
+
+pub one_follows : (C : Type 0) (ds : Data) → Follows (C × FlatIn ds) (λ d. C × (depth_at d ≤ 512)) (λ d. ds ≡ one d) (one_value ds) (one_value ds)
+one_follows C none = failed _ _ _
+one_follows C (more d none) = done _ _ _ d (λ h. let a : depth_at d ≤ 512 = h.1 in (h.0, omega (arith, a))) refl
+one_follows C (more d (more e es)) = failed _ _ _
+
+-- the fields that stay
+added : (b : Flow) (w : Work) (ds : Data) → Empty b w → Empty (adds b) (record w { values = ds })
+added b w ds e = record { values = λ t. absurd cc; held = e.held; directives = e.directives; endings = e.endings; items = e.items; raw = e.raw; plain = e.plain }
+
+work_back : (w : Work) (ds : Data) → FlatWork (record w { values = join w.values ds }) → FlatWork w × FlatIn ds
+work_back w ds h = let s = flat_join w.values ds h.values in (record { values = s.0; held = h.held; directives = h.directives; endings = h.endings; items = h.items }, s.1)
+
+alone : (d : Datum) → FlatIn (one d) → depth_at d ≤ 512
+alone d h = omega (arith, h)
+
+value_follows : (b : Flow) (d : Datum) (w : Work) (xs : List Symbol) (ps : List Part) → Empty b w → Laid xs ps
+    → Follows ((FlatWork w × FlatParts ps) × (depth_at d ≤ 512)) FlatGot (Stepped (adds b) xs) (with_value d w ps) (with_value d w ps)
+value_follows b d w xs ps e laid =
+    done _ _ _ (gather d w, ps) (λ z. let k = work_back w (one d) z.0 in ((k.0, z.1), alone d k.1)) (added b w (join w.values (one d)) e, laid)
+
+plain_value : (b : Flow) (d : Datum) (w : Work) (xs : List Symbol) (ps : List Part) → Empty b w → Laid xs ps → Follows (FlatGot (w, ps)) FlatGot (Stepped (adds b) xs) (with_value d w ps) (with_value d w ps)
+plain_value b d w xs ps e laid = weaker ((FlatWork w × FlatParts ps) × (depth_at d ≤ 512)) (FlatGot (w, ps)) FlatGot (Stepped (adds b) xs) _ _ (λ h. h.0) (value_follows b d w xs ps e laid)
+
+tree_follows : (S : Type 0) (K : Tree → Type 0) (r q : Result Tree Fault) (b : Flow) (w : Work) (xs : List Symbol) (ps : List Part) → Empty b w → Laid xs ps
+    → Follows S (λ t. (FlatWork w × FlatParts ps) × Flat t) K r q → Follows S FlatGot (Stepped (adds b) xs) (with_node r w ps) (with_node q w ps)
+tree_follows S K r q b w xs ps e laid h =
+    andthen S (λ t. (FlatWork w × FlatParts ps) × Flat t) K FlatGot (Stepped (adds b) xs) r q (λ t. with_value (child t) w ps) (λ t. with_value (child t) w ps) h (λ t k. value_follows b (child t) w xs ps e laid)
+
+made_follows : (C : Type 0) (k : Kind) (ds : Data) → Follows C (λ t. C × Flat t) (λ t. branch k ds ≡ t) (limited k ds) (unlimited k ds)
+made_follows C k ds = weaker (C × FlatIn ds) C (λ t. C × Flat t) (λ t. branch k ds ≡ t) (limited k ds) (unlimited k ds) (λ h. h.0) (node_follows C k ds)
+
+flat_leaf : (p : Part) → LeafIf true p → FlatPart p
+flat_leaf (parts.Token l) h = tt
+flat_leaf parts.Counted h = tt
+flat_leaf (parts.Values ds raw) h = absurd h
+flat_leaf (parts.Endings es) h = absurd h
+flat_leaf (parts.Items is) h = absurd h
+
+skip_follows : (b : Flow) (w : Work) (x : Symbol) (xs : List Symbol) (ps : List Part) → is_leaf x ≡ true → Empty b w → Laid (x ∷ xs) ps → Follows (FlatGot (w, ps)) FlatGot (Stepped b xs) (skip w ps) (skip w ps)
+unfolding skip
+skip_follows b w x xs [] leaf e laid = absurd laid
+skip_follows b w x xs (p ∷ ps) leaf e laid = done _ _ _ (w, ps) (λ z. (z.0, (flat_leaf p (subst (λ l. LeafIf l p) leaf laid.0.leaf), z.1))) (e, laid.1)
+
+put_follows : (b : Flow) (w : Work) (x : Symbol) (xs : List Symbol) (ps : List Part) → Empty b w → Laid (x ∷ xs) ps → Follows (FlatGot (w, ps)) FlatGot (Stepped (adds b) xs) (put w ps) (put w ps)
+unfolding put
+put_follows b w x xs ps e laid =
+    andthen (FlatGot (w, ps)) (FlatValues (FlatWork w)) (KnownValues xs) FlatGot (Stepped (adds b) xs) (taken_values ps) (taken_values ps) _ _ (values_follows (FlatWork w) x xs ps laid)
+    (λ v j. done _ _ _ (record w { values = join w.values v.0.0 }, v.1) (λ z. let k = work_back w v.0.0 z.0 in (k.0, k.1, z.1)) (added b w (join w.values v.0.0) e, j.1))
+
+raw_added : (b : Flow) (w : Work) (ds : Data) (raw : Option NameId) → Empty b w → Empty (with_raw b) (record w { values = ds; raw = raw })
+raw_added b w ds raw e = record { values = λ t. absurd cc; held = e.held; directives = e.directives; endings = e.endings; items = e.items; raw = λ t. absurd cc; plain = e.plain }
+
+raw_back : (w : Work) (ds : Data) (raw : Option NameId) → FlatWork (record w { values = join w.values ds; raw = raw }) → FlatWork w × FlatIn ds
+raw_back w ds raw h = let s = flat_join w.values ds h.values in (record { values = s.0; held = h.held; directives = h.directives; endings = h.endings; items = h.items }, s.1)
+
+operand_follows : (b : Flow) (w : Work) (x : Symbol) (xs : List Symbol) (ps : List Part) → Empty b w → Laid (x ∷ xs) ps → Follows (FlatGot (w, ps)) FlatGot (Stepped (with_raw b) xs) (operand w ps) (operand w ps)
+unfolding operand
+operand_follows b w x xs ps e laid =
+    andthen (FlatGot (w, ps)) (FlatValues (FlatWork w)) (KnownValues xs) FlatGot (Stepped (with_raw b) xs) (taken_values ps) (taken_values ps) _ _ (values_follows (FlatWork w) x xs ps laid)
+    (λ v j. done _ _ _ (record w { values = join w.values v.0.0; raw = v.0.1 }, v.1) (λ z. let k = raw_back w v.0.0 v.0.1 z.0 in (k.0, k.1, z.1)) (raw_added b w (join w.values v.0.0) v.0.1 e, j.1))
+
+wrap_follows : (b : Flow) (w : Work) (x : Symbol) (xs : List Symbol) (ps : List Part) → Empty b w → Laid (x ∷ xs) ps → Follows (FlatGot (w, ps)) FlatGot (Stepped (adds b) xs) (wrap w ps) (wrap w ps)
+unfolding wrap
+wrap_follows b w x xs ps e laid =
+    andthen (FlatGot (w, ps)) (FlatValues (FlatWork w)) (KnownValues xs) FlatGot (Stepped (adds b) xs) (taken_values ps) (taken_values ps) _ _ (values_follows (FlatWork w) x xs ps laid)
+    (λ v j. weaker ((FlatWork w × FlatParts v.1) × FlatIn v.0.0) (FlatValues (FlatWork w) v) FlatGot (Stepped (adds b) xs) _ _ (λ h. (h.0.0, h.1, h.0.1)) (value_follows b (listed v.0.0) w xs v.1 e j.1))
+
+text_follows : (b : Flow) (w : Work) (x : Symbol) (xs : List Symbol) (ps : List Part) → Empty b w → Laid (x ∷ xs) ps → Follows (FlatGot (w, ps)) FlatGot (Stepped (adds b) xs) (text w ps) (text w ps)
+unfolding text
+text_follows b w x xs ps e laid =
+    andthen (FlatGot (w, ps)) (λ l. FlatWork w × FlatParts l.1) (λ l. Laid xs l.1) FlatGot (Stepped (adds b) xs) (taken_leaf ps) (taken_leaf ps) _ _ (leaf_follows (FlatWork w) x xs ps laid)
+    (λ l j. andthen (FlatGot (w, l.1)) (λ n. FlatGot (w, l.1)) (λ n. Unit {0}) FlatGot (Stepped (adds b) xs) (there l.0.text) (there l.0.text) (λ n. with_value (name n.0) w l.1) (λ n. with_value (name n.0) w l.1) (keep _ _) (λ n u. plain_value b (name n.0) w xs l.1 e j))
+
+whole_follows : (b : Flow) (w : Work) (x : Symbol) (xs : List Symbol) (ps : List Part) → Empty b w → Laid (x ∷ xs) ps → Follows (FlatGot (w, ps)) FlatGot (Stepped (adds b) xs) (whole_number w ps) (whole_number w ps)
+unfolding whole_number
+whole_follows b w x xs ps e laid =
+    andthen (FlatGot (w, ps)) (λ l. FlatWork w × FlatParts l.1) (λ l. Laid xs l.1) FlatGot (Stepped (adds b) xs) (taken_leaf ps) (taken_leaf ps) _ _ (leaf_follows (FlatWork w) x xs ps laid)
+    (λ l j. andthen (FlatGot (w, l.1)) (λ n. FlatGot (w, l.1)) (λ n. Unit {0}) FlatGot (Stepped (adds b) xs) (number l.0.kind) (number l.0.kind) (λ n. with_value (whole n) w l.1) (λ n. with_value (whole n) w l.1) (keep _ _) (λ n u. plain_value b (whole n) w xs l.1 e j))
+
+operator_follows : (o : EnumId) (b : Flow) (w : Work) (x : Symbol) (xs : List Symbol) (ps : List Part) → Empty b w → Laid (x ∷ xs) ps → Follows (FlatGot (w, ps)) FlatGot (Stepped (adds b) xs) (with_operator o w ps) (with_operator o w ps)
+unfolding with_operator
+operator_follows o b w x xs ps e laid =
+    andthen (FlatGot (w, ps)) (λ l. FlatWork w × FlatParts l.1) (λ l. Laid xs l.1) FlatGot (Stepped (adds b) xs) (taken_leaf ps) (taken_leaf ps) _ _ (leaf_follows (FlatWork w) x xs ps laid)
+    (λ l j. andthen (FlatGot (w, l.1)) (λ n. FlatGot (w, l.1)) (λ n. Unit {0}) FlatGot (Stepped (adds b) xs) (there (operator o l.0.kind)) (there (operator o l.0.kind)) (λ n. with_value (choice n) w l.1) (λ n. with_value (choice n) w l.1) (keep _ _) (λ n u. plain_value b (choice n) w xs l.1 e j))
+
+named_follows : (k : Kind) (b : Flow) (w : Work) (x : Symbol) (xs : List Symbol) (ps : List Part) → Empty b w → Laid (x ∷ xs) ps → Follows (FlatGot (w, ps)) FlatGot (Stepped (adds b) xs) (named limited k w ps) (named unlimited k w ps)
+unfolding named
+named_follows k b w x xs ps e laid =
+    andthen (FlatGot (w, ps)) (λ l. FlatWork w × FlatParts l.1) (λ l. Laid xs l.1) FlatGot (Stepped (adds b) xs) (taken_leaf ps) (taken_leaf ps) _ _ (leaf_follows (FlatWork w) x xs ps laid)
+    (λ l j. andthen (FlatGot (w, l.1)) (λ n. FlatGot (w, l.1)) (λ n. Unit {0}) FlatGot (Stepped (adds b) xs) (there l.0.text) (there l.0.text) (λ n. with_node (limited k (one (name n.0))) w l.1) (λ n. with_node (unlimited k (one (name n.0))) w l.1) (keep _ _)
+        (λ n u. tree_follows (FlatGot (w, l.1)) (λ t. branch k (one (name n.0)) ≡ t) (limited k (one (name n.0))) (unlimited k (one (name n.0))) b w xs l.1 e j (made_follows (FlatGot (w, l.1)) k (one (name n.0)))))
+
+quoted_follows : (b : Flow) (w : Work) (x : Symbol) (xs : List Symbol) (ps : List Part) → Empty b w → Laid (x ∷ xs) ps → Follows (FlatGot (w, ps)) FlatGot (Stepped (with_raw b) xs) (quoted limited w ps) (quoted unlimited w ps)
+unfolding quoted
+quoted_follows b w x xs ps e laid =
+    andthen (FlatGot (w, ps)) (λ l. FlatWork w × FlatParts l.1) (λ l. Laid xs l.1) FlatGot (Stepped (with_raw b) xs) (taken_leaf ps) (taken_leaf ps) _ _ (leaf_follows (FlatWork w) x xs ps laid)
+    (λ l j. andthen (FlatGot (w, l.1)) (λ n. FlatGot (w, l.1)) (λ n. Unit {0}) FlatGot (Stepped (with_raw b) xs) (there l.0.text) (there l.0.text) _ _ (keep _ _)
+        (λ n u. andthen (FlatGot (w, l.1)) (λ t. FlatGot (w, l.1) × Flat t) (λ t. branch kinds.LiteralStringExpression (one (name n.0)) ≡ t) FlatGot (Stepped (with_raw b) xs)
+            (limited kinds.LiteralStringExpression (one (name n.0))) (unlimited kinds.LiteralStringExpression (one (name n.0))) _ _ (made_follows (FlatGot (w, l.1)) kinds.LiteralStringExpression (one (name n.0)))
+            (λ t k. done _ _ _ (record w { values = join w.values (one (child t)); raw = l.0.raw }, l.1) (λ z. let k = raw_back w (one (child t)) l.0.raw z.0 in ((k.0, z.1), alone (child t) k.1)) (raw_added b w (join w.values (one (child t))) l.0.raw e, j))))
+
+parameter_of_follows : (C : Type 0) (t : Tree) (d : Datum) → Follows (C × Flat t × (depth_at d ≤ 512)) (λ u. C × Flat u) (λ u. Unit {0}) (parameter_of limited t d) (parameter_of unlimited t d)
+parameter_of_follows C t absent = done _ _ _ t (λ h. (h.0, h.1, omega arith)) tt
+parameter_of_follows C t (child u) =
+    known (C × Flat t × (depth_at (child u) ≤ 512)) (λ v. C × Flat v) (λ v. branch kinds.BindingWithInitializer (two (child t) (child u)) ≡ v) (λ v. Unit {0}) (limited kinds.BindingWithInitializer (two (child t) (child u))) (unlimited kinds.BindingWithInitializer (two (child t) (child u))) tt
+    (weaker (C × FlatIn (two (child t) (child u))) (C × Flat t × (depth_at (child u) ≤ 512)) (λ v. C × Flat v) (λ v. branch kinds.BindingWithInitializer (two (child t) (child u)) ≡ v) (limited kinds.BindingWithInitializer (two (child t) (child u))) (unlimited kinds.BindingWithInitializer (two (child t) (child u)))
+        (λ h. let a : depth_in (two (child t) (child u)) ≤ 512 = h.1 in (h.0, omega (arith, a), omega (arith, a))) (node_follows C kinds.BindingWithInitializer (two (child t) (child u))))
+parameter_of_follows C t (listed ds) = failed _ _ _
+parameter_of_follows C t (flag c) = failed _ _ _
+parameter_of_follows C t (index n) = failed _ _ _
+parameter_of_follows C t (whole n) = failed _ _ _
+parameter_of_follows C t (name n) = failed _ _ _
+parameter_of_follows C t no_name = failed _ _ _
+parameter_of_follows C t (choice n) = failed _ _ _
+parameter_of_follows C t (window from to) = failed _ _ _
