@@ -204,3 +204,206 @@ parameter_of_follows C t (name n) = failed _ _ _
 parameter_of_follows C t no_name = failed _ _ _
 parameter_of_follows C t (choice n) = failed _ _ _
 parameter_of_follows C t (window from to) = failed _ _ _
+
+parameter_follows : (b : Flow) (w : Work) (x y : Symbol) (xs : List Symbol) (ps : List Part) → Empty b w → Laid (x ∷ y ∷ xs) ps → Follows (FlatGot (w, ps)) FlatGot (Stepped (adds b) xs) (parameter limited w ps) (parameter unlimited w ps)
+unfolding parameter
+parameter_follows b w x y xs ps e laid =
+    andthen (FlatGot (w, ps)) (λ l. FlatWork w × FlatParts l.1) (λ l. Laid (y ∷ xs) l.1) FlatGot (Stepped (adds b) xs) (taken_leaf ps) (taken_leaf ps) _ _ (leaf_follows (FlatWork w) x (y ∷ xs) ps laid)
+    (λ l j. andthen (FlatGot (w, l.1)) (λ n. FlatGot (w, l.1)) (λ n. Unit {0}) FlatGot (Stepped (adds b) xs) (there l.0.text) (there l.0.text) _ _ (keep _ _)
+        (λ n u. andthen (FlatGot (w, l.1)) (λ t. FlatGot (w, l.1) × Flat t) (λ t. branch kinds.BindingIdentifier (one (name n.0)) ≡ t) FlatGot (Stepped (adds b) xs)
+            (limited kinds.BindingIdentifier (one (name n.0))) (unlimited kinds.BindingIdentifier (one (name n.0))) _ _ (made_follows (FlatGot (w, l.1)) kinds.BindingIdentifier (one (name n.0)))
+            (λ t k. andthen (FlatGot (w, l.1) × Flat t) (FlatValues (FlatWork w × Flat t)) (KnownValues xs) FlatGot (Stepped (adds b) xs) (taken_values l.1) (taken_values l.1) _ _
+                (weaker ((FlatWork w × Flat t) × FlatParts l.1) (FlatGot (w, l.1) × Flat t) (FlatValues (FlatWork w × Flat t)) (KnownValues xs) (taken_values l.1) (taken_values l.1) (λ h. ((h.0.0, h.1), h.0.1)) (values_follows (FlatWork w × Flat t) y xs l.1 j))
+                (λ v jv. andthen (FlatValues (FlatWork w × Flat t) v) (λ d. ((FlatWork w × FlatParts v.1) × Flat t) × (depth_at d ≤ 512)) (λ d. v.0.0 ≡ one d) FlatGot (Stepped (adds b) xs) (one_value v.0.0) (one_value v.0.0) _ _
+                    (weaker (((FlatWork w × FlatParts v.1) × Flat t) × FlatIn v.0.0) (FlatValues (FlatWork w × Flat t) v) (λ d. ((FlatWork w × FlatParts v.1) × Flat t) × (depth_at d ≤ 512)) (λ d. v.0.0 ≡ one d) (one_value v.0.0) (one_value v.0.0) (λ h. ((h.0.0.0, h.0.1), h.1, h.0.0.1)) (one_follows ((FlatWork w × FlatParts v.1) × Flat t) v.0.0))
+                    (λ d jd. tree_follows (((FlatWork w × FlatParts v.1) × Flat t) × (depth_at d ≤ 512)) (λ u. Unit {0}) (parameter_of limited t d) (parameter_of unlimited t d) b w xs v.1 e jv.1
+                        (weaker ((FlatWork w × FlatParts v.1) × Flat t × (depth_at d ≤ 512)) (((FlatWork w × FlatParts v.1) × Flat t) × (depth_at d ≤ 512)) (λ u. (FlatWork w × FlatParts v.1) × Flat u) (λ u. Unit {0}) (parameter_of limited t d) (parameter_of unlimited t d) (λ h. ((h.0, h.1), h.2)) (parameter_of_follows (FlatWork w × FlatParts v.1) t d)))))))
+
+template_follows : (b : Flow) (w : Work) (x y : Symbol) (xs : List Symbol) (ps : List Part) → Empty b w → Laid (x ∷ y ∷ xs) ps → Follows (FlatGot (w, ps)) FlatGot (Stepped (adds b) xs) (template_part limited w ps) (template_part unlimited w ps)
+unfolding template_part
+template_follows b w x y xs ps e laid =
+    andthen (FlatGot (w, ps)) (FlatValues (FlatWork w)) (KnownValues (y ∷ xs)) FlatGot (Stepped (adds b) xs) (taken_values ps) (taken_values ps) _ _ (values_follows (FlatWork w) x (y ∷ xs) ps laid)
+    (λ v jv. andthen (FlatValues (FlatWork w) v) (λ d. (FlatWork w × FlatParts v.1) × (depth_at d ≤ 512)) (λ d. v.0.0 ≡ one d) FlatGot (Stepped (adds b) xs) (one_value v.0.0) (one_value v.0.0) _ _
+        (weaker ((FlatWork w × FlatParts v.1) × FlatIn v.0.0) (FlatValues (FlatWork w) v) (λ d. (FlatWork w × FlatParts v.1) × (depth_at d ≤ 512)) (λ d. v.0.0 ≡ one d) (one_value v.0.0) (one_value v.0.0) (λ h. (h.0.0, h.1, h.0.1)) (one_follows (FlatWork w × FlatParts v.1) v.0.0))
+        (λ d jd. andthen ((FlatWork w × FlatParts v.1) × (depth_at d ≤ 512)) (FlatValues (FlatWork w × (depth_at d ≤ 512))) (KnownValues xs) FlatGot (Stepped (adds b) xs) (taken_values v.1) (taken_values v.1) _ _
+            (weaker ((FlatWork w × (depth_at d ≤ 512)) × FlatParts v.1) ((FlatWork w × FlatParts v.1) × (depth_at d ≤ 512)) (FlatValues (FlatWork w × (depth_at d ≤ 512))) (KnownValues xs) (taken_values v.1) (taken_values v.1) (λ h. ((h.0.0, h.1), h.0.1)) (values_follows (FlatWork w × (depth_at d ≤ 512)) y xs v.1 jv.1))
+            (λ u ju. andthen (FlatValues (FlatWork w × (depth_at d ≤ 512)) u) (λ f. ((FlatWork w × FlatParts u.1) × (depth_at d ≤ 512)) × (depth_at f.0 ≤ 512) × FlatIn f.1) (λ f. Unit {0}) FlatGot (Stepped (adds b) xs) (first_value u.0.0) (first_value u.0.0) _ _
+                (weaker (((FlatWork w × FlatParts u.1) × (depth_at d ≤ 512)) × FlatIn u.0.0) (FlatValues (FlatWork w × (depth_at d ≤ 512)) u) (λ f. ((FlatWork w × FlatParts u.1) × (depth_at d ≤ 512)) × (depth_at f.0 ≤ 512) × FlatIn f.1) (λ f. Unit {0}) (first_value u.0.0) (first_value u.0.0) (λ h. ((h.0.0.0, h.0.1), h.1, h.0.0.1)) (first_follows ((FlatWork w × FlatParts u.1) × (depth_at d ≤ 512)) u.0.0))
+                (λ f jf. andthen (((FlatWork w × FlatParts u.1) × (depth_at d ≤ 512)) × (depth_at f.0 ≤ 512) × FlatIn f.1) (λ t. ((FlatWork w × FlatParts u.1) × FlatIn f.1) × Flat t) (λ t. branch kinds.TemplatePart (two d f.0) ≡ t) FlatGot (Stepped (adds b) xs) (limited kinds.TemplatePart (two d f.0)) (unlimited kinds.TemplatePart (two d f.0)) _ _
+                    (weaker (((FlatWork w × FlatParts u.1) × FlatIn f.1) × FlatIn (two d f.0)) (((FlatWork w × FlatParts u.1) × (depth_at d ≤ 512)) × (depth_at f.0 ≤ 512) × FlatIn f.1) (λ t. ((FlatWork w × FlatParts u.1) × FlatIn f.1) × Flat t) (λ t. branch kinds.TemplatePart (two d f.0) ≡ t) (limited kinds.TemplatePart (two d f.0)) (unlimited kinds.TemplatePart (two d f.0))
+                        (λ h. let a : depth_in (two d f.0) ≤ 512 = h.1 in ((h.0.0, omega (arith, a)), omega (arith, a), h.0.1)) (node_follows ((FlatWork w × FlatParts u.1) × FlatIn f.1) kinds.TemplatePart (two d f.0)))
+                    (λ t jt. done _ _ _ (record w { values = join w.values (more (child t) f.1) }, u.1)
+                        (λ z. let k = work_back w (more (child t) f.1) z.0 in let a : depth_in (more (child t) f.1) ≤ 512 = k.1 in (((k.0, z.1), omega (arith, a)), omega (arith, a))) (added b w (join w.values (more (child t) f.1)) e, ju.1))))))
+
+plain_join : (es fs : List Ending) → AllPlain es → AllPlain fs → AllPlain (es ++ fs)
+plain_join [] fs h k = k
+plain_join (e ∷ es) fs h k = (h.0, plain_join es fs h.1 k)
+
+plain_tail : (a b : Bool) (es fs : List Ending) → (a ≡ true → AllPlain es) → PlainEnds b fs → (a && b) ≡ true → AllPlain (es ++ fs)
+plain_tail true true es fs h k e = plain_join es fs (h refl) k
+plain_tail true false es fs h k e = absurd cc
+plain_tail false b es fs h k e = absurd cc
+
+tail_follows : (b : Flow) (w : Work) (x : Symbol) (xs : List Symbol) (ps : List Part) → Empty b w → Laid (x ∷ xs) ps → Follows (FlatGot (w, ps)) FlatGot (Stepped (with_tail x b) xs) (tail w ps) (tail w ps)
+unfolding tail
+tail_follows b w x xs ps e laid =
+    andthen (FlatGot (w, ps)) (FlatTaken (FlatWork w)) (KnownEndings (is_plain x) xs) FlatGot (Stepped (with_tail x b) xs) (taken_endings ps) (taken_endings ps) _ _ (endings_follows (FlatWork w) x xs ps laid)
+    (λ t j. done _ _ _ (record w { endings = w.endings ++ t.0 }, t.1)
+        (λ z. let s = flat_endings w.endings t.0 z.0.endings in (record { values = z.0.values; held = z.0.held; directives = z.0.directives; endings = s.0; items = z.0.items }, s.1, z.1))
+        (record { values = e.values; held = e.held; directives = e.directives; endings = λ t. absurd cc; items = e.items; raw = e.raw; plain = plain_tail b.plain (is_plain x) w.endings t.0 e.plain j.0 }, j.1))
+
+not_true : (b : Bool) → not b ≡ true → b ≡ false
+not_true true e = sym e
+not_true false e = refl
+
+no_items : (is : List Item) → is ≡ [] → FlatItems is
+no_items is e = subst FlatItems (sym e) tt
+
+no_data : (ds : Data) → ds ≡ none → FlatIn ds
+no_data ds e = let z : depth_in none ≤ 512 = omega arith in subst FlatIn (sym e) z
+
+rest_follows : (b : Flow) (w : Work) (x : Symbol) (xs : List Symbol) (ps : List Part) → b.items ≡ false → Empty b w → Laid (x ∷ xs) ps → Follows (FlatGot (w, ps)) FlatGot (Stepped (with_rest b) xs) (rest w ps) (rest w ps)
+unfolding rest
+rest_follows b w x xs ps free e laid =
+    andthen (FlatGot (w, ps)) (FlatList (FlatWork w)) (KnownItems xs) FlatGot (Stepped (with_rest b) xs) (taken_items ps) (taken_items ps) _ _ (items_follows (FlatWork w) x xs ps laid)
+    (λ i j. done _ _ _ (record w { items = i.0 }, i.1)
+        (λ z. (record { values = z.0.values; held = z.0.held; directives = z.0.directives; endings = z.0.endings; items = no_items w.items (e.items free) }, z.0.items, z.1))
+        (record { values = e.values; held = e.held; directives = e.directives; endings = e.endings; items = λ t. absurd cc; raw = e.raw; plain = e.plain }, j.1))
+
+all_flat : (is : List Item) → FlatIn (statements is) → FlatItems is
+all_flat [] h = tt
+all_flat (i ∷ is) h = let a : depth_in (statements (i ∷ is)) ≤ 512 = h in let b : depth_in (statements is) ≤ 512 = omega (arith, a) in (omega (arith, a), all_flat is b)
+
+statements_follows : (b : Flow) (w : Work) (x : Symbol) (xs : List Symbol) (ps : List Part) → Empty b w → Laid (x ∷ xs) ps → Follows (FlatGot (w, ps)) FlatGot (Stepped (adds b) xs) (with_statements w ps) (with_statements w ps)
+unfolding with_statements
+statements_follows b w x xs ps e laid =
+    andthen (FlatGot (w, ps)) (FlatList (FlatWork w)) (KnownItems xs) FlatGot (Stepped (adds b) xs) (taken_items ps) (taken_items ps) _ _ (items_follows (FlatWork w) x xs ps laid)
+    (λ i j. weaker ((FlatWork w × FlatParts i.1) × FlatIn (statements i.0)) (FlatList (FlatWork w) i) FlatGot (Stepped (adds b) xs) _ _ (λ h. (h.0.0, all_flat i.0 h.1, h.0.1)) (value_follows b (listed (statements i.0)) w xs i.1 e j.1))
+
+-- what is a directive is not deep
+flat_behind : (o : Option NameId) (i : Item) (is : List Item) → SmallTree o i.statement → (FlatIn (statements (behind_directives is)) → FlatItems is)
+    → FlatIn (statements (behind_directive o (i ∷ is) (behind_directives is))) → FlatItems (i ∷ is)
+flat_behind None i is small rest h = all_flat (i ∷ is) h
+flat_behind (Some raw) i is small rest h = let a : depth i.statement ≤ 2 = small in (omega (arith, a), rest h)
+
+flat_items : (is : List Item) → RawItems is → FlatIn (statements (behind_directives is)) → FlatItems is
+flat_items [] raw h = tt
+flat_items (i ∷ is) raw h = flat_behind i.raw i is raw.0 (flat_items is raw.1) h
+
+directives_from_follows : (C : Type 0) (o : Option NameId) (r q : Result Data Fault) → Follows C (λ ds. C) (λ ds. Unit {0}) r q → Follows C (λ ds. C) (λ ds. Unit {0}) (directives_from limited o r) (directives_from unlimited o q)
+directives_from_follows C None r q h = done _ _ _ none (λ c. c) tt
+directives_from_follows C (Some raw) r q h =
+    andthen C (λ t. C × Flat t) (λ t. branch kinds.Directive (one (name raw.0)) ≡ t) (λ ds. C) (λ ds. Unit {0}) (limited kinds.Directive (one (name raw.0))) (unlimited kinds.Directive (one (name raw.0))) (λ t. r >>= λ ds. Ok (more (child t) ds)) (λ t. q >>= λ ds. Ok (more (child t) ds)) (made_follows C kinds.Directive (one (name raw.0)))
+    (λ t j. weaker C (C × Flat t) (λ ds. C) (λ ds. Unit {0}) _ _ (λ c. (c, flat_directive raw t j)) (andthen C (λ ds. C) (λ ds. Unit {0}) (λ ds. C) (λ ds. Unit {0}) r q (λ ds. Ok (more (child t) ds)) (λ ds. Ok (more (child t) ds)) h (λ ds u. done _ _ _ (more (child t) ds) (λ c. c) tt)))
+  where
+    flat_directive : (raw : NameId) (t : Tree) → branch kinds.Directive (one (name raw.0)) ≡ t → Flat t
+    flat_directive raw t e = let z : depth (branch kinds.Directive (one (name raw.0))) ≤ 512 = omega arith in subst Flat e z
+
+directives_follows : (C : Type 0) (is : List Item) → Follows C (λ ds. C) (λ ds. Unit {0}) (directives limited is) (directives unlimited is)
+directives_follows C [] = done _ _ _ none (λ c. c) tt
+directives_follows C (i ∷ is) = directives_from_follows C i.raw (directives limited is) (directives unlimited is) (directives_follows C is)
+
+body_follows : (b : Flow) (w : Work) (x : Symbol) (xs : List Symbol) (ps : List Part) → b.directives ≡ false → Empty b w → Laid (x ∷ xs) ps → Follows (FlatGot (w, ps)) FlatGot (Stepped (with_body b) xs) (body limited w ps) (body unlimited w ps)
+unfolding body
+body_follows b w x xs ps free e laid =
+    andthen (FlatGot (w, ps)) (FlatList (FlatWork w)) (KnownItems xs) FlatGot (Stepped (with_body b) xs) (taken_items ps) (taken_items ps) _ _ (items_follows (FlatWork w) x xs ps laid)
+    (λ i j. andthen (FlatList (FlatWork w) i) (λ ds. FlatList (FlatWork w) i) (λ ds. Unit {0}) FlatGot (Stepped (with_body b) xs) (directives limited i.0) (directives unlimited i.0) _ _ (directives_follows (FlatList (FlatWork w) i) i.0)
+        (λ ds u. done _ _ _ (record w { values = join w.values (one (listed (statements (behind_directives i.0)))); directives = ds }, i.1)
+            (λ z. let s = flat_join w.values (one (listed (statements (behind_directives i.0)))) z.0.values
+                in let a : depth_in (one (listed (statements (behind_directives i.0)))) ≤ 512 = s.1
+                in let c : depth_in (statements (behind_directives i.0)) ≤ 512 = omega (arith, a)
+                in (record { values = s.0; held = z.0.held; directives = no_data w.directives (e.directives free); endings = z.0.endings; items = z.0.items }, flat_items i.0 j.0 c, z.1))
+            (record { values = λ t. absurd cc; held = e.held; directives = λ t. absurd cc; endings = e.endings; items = e.items; raw = e.raw; plain = e.plain }, j.1)))
+
+hold_follows : (b : Flow) (w : Work) (xs : List Symbol) (ps : List Part) → b.held ≡ false → Empty b w → Laid xs ps → Follows {A = Work × List Part} (FlatGot (w, ps)) FlatGot (Stepped (holds b) xs) (Ok (hold w, ps)) (Ok (hold w, ps))
+unfolding hold
+hold_follows b w xs ps free e laid =
+    done _ _ _ (hold w, ps) (λ z. (record { values = z.0.held; held = no_data w.held (e.held free); directives = z.0.directives; endings = z.0.endings; items = z.0.items }, z.1))
+    (record { values = λ t. refl; held = e.values; directives = e.directives; endings = e.endings; items = e.items; raw = e.raw; plain = e.plain }, laid)
+
+resume_follows : (b : Flow) (w : Work) (xs : List Symbol) (ps : List Part) → Empty b w → Laid xs ps → Follows {A = Work × List Part} (FlatGot (w, ps)) FlatGot (Stepped (resumes b) xs) (Ok (resume w, ps)) (Ok (resume w, ps))
+unfolding resume
+resume_follows b w xs ps e laid =
+    done _ _ _ (resume w, ps)
+    (λ z. let s = flat_join w.held (more (listed w.directives) w.values) z.0.values
+        in let a : depth_in (more (listed w.directives) w.values) ≤ 512 = s.1
+        in (record { values = omega (arith, a); held = s.0; directives = omega (arith, a); endings = z.0.endings; items = z.0.items }, z.1))
+    (record { values = λ t. absurd cc; held = λ t. refl; directives = λ t. refl; endings = e.endings; items = e.items; raw = e.raw; plain = e.plain }, laid)
+
+-- the work but for its values
+record FlatRest (w : Work) : Type 0 where
+  held : FlatIn w.held
+  directives : FlatIn w.directives
+  endings : FlatEndings w.endings
+  items : FlatItems w.items
+
+close_follows : (k : Kind) (b : Flow) (w : Work) (xs : List Symbol) (ps : List Part) → Empty b w → Laid xs ps
+    → Follows (FlatGot (w, ps)) FlatGot (Stepped (adds b) xs) (closed limited k w >>= λ x. Ok (x, ps)) (closed unlimited k w >>= λ x. Ok (x, ps))
+unfolding closed
+close_follows k b w xs ps e laid =
+    andthen (FlatGot (w, ps)) (λ x. FlatWork x × FlatParts ps) (λ x. Empty (adds b) x) FlatGot (Stepped (adds b) xs) (closed limited k w) (closed unlimited k w) (λ x. Ok (x, ps)) (λ x. Ok (x, ps))
+    (andthen (FlatGot (w, ps)) (λ t. (FlatRest w × FlatParts ps) × Flat t) (λ t. branch k w.values ≡ t) (λ x. FlatWork x × FlatParts ps) (λ x. Empty (adds b) x) (limited k w.values) (unlimited k w.values) (λ t. Ok (record w { values = one (child t) })) (λ t. Ok (record w { values = one (child t) }))
+        (weaker ((FlatRest w × FlatParts ps) × FlatIn w.values) (FlatGot (w, ps)) (λ t. (FlatRest w × FlatParts ps) × Flat t) (λ t. branch k w.values ≡ t) (limited k w.values) (unlimited k w.values)
+            (λ h. (record { values = h.1; held = h.0.0.held; directives = h.0.0.directives; endings = h.0.0.endings; items = h.0.0.items }, h.0.1)) (node_follows (FlatRest w × FlatParts ps) k w.values))
+        (λ t j. done _ _ _ (record w { values = one (child t) }) (λ z. ((record { held = z.0.held; directives = z.0.directives; endings = z.0.endings; items = z.0.items }, z.1), alone (child t) z.0.values)) (added b w (one (child t)) e)))
+    (λ x j. done _ _ _ (x, ps) (λ z. z) (j, laid))
+
+step_follows : (s : Step) (b : Flow) (w : Work) (xs outer : List Symbol) (ps : List Part) → may_step s xs b ≡ true → Empty b w → Laid (xs ++ outer) ps
+    → Follows (FlatGot (w, ps)) FlatGot (Stepped (after s xs b) (left_by s xs ++ outer)) (step_on limited s w ps) (step_on unlimited s w ps)
+step_follows steps.Skip b w [] outer ps may e laid = absurd cc
+step_follows steps.Skip b w (x ∷ xs) outer ps may e laid = skip_follows b w x (xs ++ outer) ps may e laid
+step_follows steps.Put b w [] outer ps may e laid = absurd cc
+step_follows steps.Put b w (x ∷ xs) outer ps may e laid = put_follows b w x (xs ++ outer) ps e laid
+step_follows steps.Operand b w [] outer ps may e laid = absurd cc
+step_follows steps.Operand b w (x ∷ xs) outer ps may e laid = operand_follows b w x (xs ++ outer) ps e laid
+step_follows steps.Wrap b w [] outer ps may e laid = absurd cc
+step_follows steps.Wrap b w (x ∷ xs) outer ps may e laid = wrap_follows b w x (xs ++ outer) ps e laid
+step_follows steps.Text b w [] outer ps may e laid = absurd cc
+step_follows steps.Text b w (x ∷ xs) outer ps may e laid = text_follows b w x (xs ++ outer) ps e laid
+step_follows steps.Whole b w [] outer ps may e laid = absurd cc
+step_follows steps.Whole b w (x ∷ xs) outer ps may e laid = whole_follows b w x (xs ++ outer) ps e laid
+step_follows (steps.Named k) b w [] outer ps may e laid = absurd cc
+step_follows (steps.Named k) b w (x ∷ xs) outer ps may e laid = named_follows k b w x (xs ++ outer) ps e laid
+step_follows steps.Quoted b w [] outer ps may e laid = absurd cc
+step_follows steps.Quoted b w (x ∷ xs) outer ps may e laid = quoted_follows b w x (xs ++ outer) ps e laid
+step_follows (steps.Operator o) b w [] outer ps may e laid = absurd cc
+step_follows (steps.Operator o) b w (x ∷ xs) outer ps may e laid = operator_follows o b w x (xs ++ outer) ps e laid
+step_follows steps.Parameter b w [] outer ps may e laid = absurd cc
+step_follows steps.Parameter b w (x ∷ []) outer ps may e laid = absurd cc
+step_follows steps.Parameter b w (x ∷ y ∷ xs) outer ps may e laid = parameter_follows b w x y (xs ++ outer) ps e laid
+step_follows steps.TemplatePart b w [] outer ps may e laid = absurd cc
+step_follows steps.TemplatePart b w (x ∷ []) outer ps may e laid = absurd cc
+step_follows steps.TemplatePart b w (x ∷ y ∷ xs) outer ps may e laid = template_follows b w x y (xs ++ outer) ps e laid
+step_follows steps.Tail b w [] outer ps may e laid = absurd cc
+step_follows steps.Tail b w (x ∷ xs) outer ps may e laid = tail_follows b w x (xs ++ outer) ps e laid
+step_follows steps.Rest b w [] outer ps may e laid = absurd cc
+step_follows steps.Rest b w (x ∷ xs) outer ps may e laid = rest_follows b w x (xs ++ outer) ps (not_true b.items may) e laid
+step_follows steps.Statements b w [] outer ps may e laid = absurd cc
+step_follows steps.Statements b w (x ∷ xs) outer ps may e laid = statements_follows b w x (xs ++ outer) ps e laid
+step_follows steps.Body b w [] outer ps may e laid = absurd cc
+step_follows steps.Body b w (x ∷ xs) outer ps may e laid = body_follows b w x (xs ++ outer) ps (not_true b.directives may) e laid
+step_follows steps.Absent b w xs outer ps may e laid = plain_value b absent w (xs ++ outer) ps e laid
+step_follows steps.NoLabel b w xs outer ps may e laid = plain_value b no_name w (xs ++ outer) ps e laid
+step_follows steps.NoItems b w xs outer ps may e laid = plain_value b (listed none) w (xs ++ outer) ps e laid
+step_follows (steps.Flag f) b w xs outer ps may e laid = plain_value b (flag f) w (xs ++ outer) ps e laid
+step_follows (steps.Choice n) b w xs outer ps may e laid = plain_value b (choice n) w (xs ++ outer) ps e laid
+step_follows (steps.Scope k) b w xs outer ps may e laid =
+    tree_follows (FlatGot (w, ps)) (λ t. branch k no_names ≡ t) (limited k no_names) (unlimited k no_names) b w (xs ++ outer) ps e laid (made_follows (FlatGot (w, ps)) k no_names)
+step_follows steps.ParameterScope b w xs outer ps may e laid =
+    tree_follows (FlatGot (w, ps)) (λ t. branch kinds.AssertedParameterScope no_parameter_names ≡ t) (limited kinds.AssertedParameterScope no_parameter_names) (unlimited kinds.AssertedParameterScope no_parameter_names) b w (xs ++ outer) ps e laid
+    (made_follows (FlatGot (w, ps)) kinds.AssertedParameterScope no_parameter_names)
+step_follows steps.Hold b w xs outer ps may e laid = hold_follows b w (xs ++ outer) ps (not_true b.held may) e laid
+step_follows steps.Resume b w xs outer ps may e laid = resume_follows b w (xs ++ outer) ps e laid
+step_follows (steps.Close k) b w xs outer ps may e laid = close_follows k b w (xs ++ outer) ps e laid
+
+both_are : (a b : Bool) → (a && b) ≡ true → (a ≡ true) × (b ≡ true)
+both_are true b e = (refl, e)
+both_are false b e = absurd cc
+
+pub all_follow : (ss : List Step) (b : Flow) (w : Work) (xs outer : List Symbol) (ps : List Part) → may_all ss xs b ≡ true → Empty b w → Laid (xs ++ outer) ps
+    → Follows (FlatGot (w, ps)) FlatGot (Stepped (after_all ss xs b) (left_by_all ss xs ++ outer)) (gathered limited ss w ps) (gathered unlimited ss w ps)
+all_follow [] b w xs outer ps may e laid = done _ _ _ (w, ps) (λ z. z) (e, laid)
+all_follow (s ∷ ss) b w xs outer ps may e laid =
+    let m = both_are (may_step s xs b) (may_all ss (left_by s xs) (after s xs b)) may
+    in andthen (FlatGot (w, ps)) FlatGot (Stepped (after s xs b) (left_by s xs ++ outer)) FlatGot (Stepped (after_all (s ∷ ss) xs b) (left_by_all (s ∷ ss) xs ++ outer)) (step_on limited s w ps) (step_on unlimited s w ps) _ _
+        (step_follows s b w xs outer ps m.0 e laid) (λ r j. all_follow ss (after s xs b) r.0 (left_by s xs) outer r.1 m.1 j.0 j.1)
