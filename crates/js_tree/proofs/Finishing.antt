@@ -77,7 +77,7 @@ stands_held m P kept (forms.Contents body) t f h =
 stands_held m P kept forms.Label t f h = label_held m P kept t (identifier t) refl h
 stands_held m P kept (forms.Declared ds) t f h = tt
 
-ended_held : (m : Maker) (P : Datum → Type 0) → Kept m P → (e : Ending) (t : Tree) → HoldsEnding P e → P (child t) → Holds (Has P) (ended m e t)
+pub ended_held : (m : Maker) (P : Datum → Type 0) → Kept m P → (e : Ending) (t : Tree) → HoldsEnding P e → P (child t) → Holds (Has P) (ended m e t)
 unfolding ended
 ended_held m P kept (endings.Around k form before behind) t e h =
     then P (Has P) (stands m form t) (λ d. m k (join before (more d behind))) (stands_held m P kept form t e.1 h)
@@ -111,7 +111,7 @@ shorthand_held m P kept ds h =
     then (λ t. m kinds.IdentifierExpression ds ≡ Ok t) (Has P) (m kinds.IdentifierExpression ds) (λ t. m kinds.ShorthandProperty (one (child t))) (each_result (λ t. m kinds.IdentifierExpression ds ≡ Ok t) (m kinds.IdentifierExpression ds) (λ t e. e))
     (λ t it. each_result (Has P) (m kinds.ShorthandProperty (one (child t))) (λ u e. kept.shorthand ds t u h it e))
 
-property_held : (m : Maker) (P : Datum → Type 0) → Kept m P → (w : Work) (ps : List Part) → HoldsWork P w → HoldsParts P ps → Holds (HoldsParts P) (property m w ps)
+pub property_held : (m : Maker) (P : Datum → Type 0) → Kept m P → (w : Work) (ps : List Part) → HoldsWork P w → HoldsParts P ps → Holds (HoldsParts P) (property m w ps)
 unfolding property
 property_held m P kept w ps h k =
     either (HoldsParts P) (length w.endings == 0) _ _ (made_end P (shorthand m w.values) ps (shorthand_held m P kept w.values h.values) k)
@@ -261,7 +261,7 @@ finish_held m P kept finishes.Switch w ps is h k = switch_held m P kept w ps h k
 finish_held m P kept finishes.Parameters w ps is h k = all_parameters_held m P kept w ps h k
 
 -- no row makes a kind that is lazy
-row_makes : (r : RowId) → (all_made_by (recipe r).0 ≡ true) × (is_finished_by (recipe r).1 ≡ true)
+pub row_makes : (r : RowId) → (all_made_by (recipe r).0 ≡ true) × (is_finished_by (recipe r).1 ≡ true)
 row_makes rows.Script = (refl, refl)
 row_makes rows.Items = (refl, refl)
 row_makes rows.ItemsEmpty = (refl, refl)
@@ -433,7 +433,7 @@ row_makes rows.TplRest = (refl, refl)
 row_makes rows.TplMoreMiddle = (refl, refl)
 row_makes rows.TplMoreTail = (refl, refl)
 
-nothing : (P : Datum → Type 0) → HoldsWork P no_work
+pub nothing : (P : Datum → Type 0) → HoldsWork P no_work
 nothing P = record { values = tt; held = tt; directives = tt; raw = tt; endings = tt; items = tt }
 
 row_held : (m : Maker) (P : Datum → Type 0) → Kept m P → (r : RowId) (ps : List Part) → HoldsParts P ps → Holds (HoldsParts P) (row_part m r ps)

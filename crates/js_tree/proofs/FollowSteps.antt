@@ -23,7 +23,7 @@ use Rattle.js_tree.specs.declared.recipe.Step.TheVariants as steps
 use Rattle.js_tree.specs.declared.work.Work.{Work}
 use Rattle.js_tree.proofs.Holding.{Holds, each_result}
 use Rattle.js_tree.proofs.Following.{mapped, Follows, done, failed, alike, known, weaker, andthen, Flat, FlatIn, FlatEndings, FlatItems, FlatPart, FlatParts, FlatWork, FlatGot, flat_join, flat_endings, node_follows}
-use Rattle.js_tree.proofs.Laying.{AllPlain, PlainEnds, SmallIf, SmallTree, RawItems, RawPart, LeafIf, PlainIf, is_leaf, is_plain, Suits, Laid, Flow, Empty, adds, with_raw, with_tail, with_rest, with_body, holds, resumes, takes_one, takes_two, behind, may_step, left_by, after, may_all, left_by_all, after_all}
+use Rattle.js_tree.proofs.Laying.{AllPlain, AllAround, Arounds, is_accessor, PlainEnds, SmallTree, RawItems, LeafIf, PlainIf, is_leaf, is_plain, Suits, Laid, Flow, Empty, adds, with_raw, with_tail, with_rest, with_body, holds, resumes, takes_one, takes_two, behind, may_step, left_by, after, may_all, left_by_all, after_all}
 
 abbrev pub Stepped : Flow → List Symbol → Work × List Part → Type 0
 Stepped b xs r = Empty b r.0 × Laid xs r.1
@@ -47,28 +47,28 @@ abbrev FlatValues : Type 0 → (Data × Option NameId) × List Part → Type 0
 FlatValues C v = C × FlatIn v.0.0 × FlatParts v.1
 
 abbrev KnownValues : List Symbol → (Data × Option NameId) × List Part → Type 0
-KnownValues xs v = SmallIf v.0.1 v.0.0 × Laid xs v.1
+KnownValues xs v = Laid xs v.1
 
 pub values_follows : (C : Type 0) (x : Symbol) (xs : List Symbol) (ps : List Part) → Laid (x ∷ xs) ps → Follows (C × FlatParts ps) (FlatValues C) (KnownValues xs) (taken_values ps) (taken_values ps)
 values_follows C x xs [] laid = failed _ _ _
 values_follows C x xs (parts.Token l ∷ ps) laid = failed _ _ _
 values_follows C x xs (parts.Counted ∷ ps) laid = failed _ _ _
-values_follows C x xs (parts.Values ds raw ∷ ps) laid = done _ _ _ ((ds, raw), ps) (λ h. (h.0, (h.1, h.2))) (laid.0.small, laid.1)
+values_follows C x xs (parts.Values ds raw ∷ ps) laid = done _ _ _ ((ds, raw), ps) (λ h. (h.0, (h.1, h.2))) laid.1
 values_follows C x xs (parts.Endings es ∷ ps) laid = failed _ _ _
 values_follows C x xs (parts.Items is ∷ ps) laid = failed _ _ _
 
 abbrev FlatTaken : Type 0 → List Ending × List Part → Type 0
 FlatTaken C e = C × FlatEndings e.0 × FlatParts e.1
 
-abbrev KnownEndings : Bool → List Symbol → List Ending × List Part → Type 0
-KnownEndings p xs e = PlainEnds p e.0 × Laid xs e.1
+abbrev KnownEndings : Bool → Bool → List Symbol → List Ending × List Part → Type 0
+KnownEndings p a xs e = PlainEnds p e.0 × Arounds a e.0 × Laid xs e.1
 
-endings_follows : (C : Type 0) (x : Symbol) (xs : List Symbol) (ps : List Part) → Laid (x ∷ xs) ps → Follows (C × FlatParts ps) (FlatTaken C) (KnownEndings (is_plain x) xs) (taken_endings ps) (taken_endings ps)
+endings_follows : (C : Type 0) (x : Symbol) (xs : List Symbol) (ps : List Part) → Laid (x ∷ xs) ps → Follows (C × FlatParts ps) (FlatTaken C) (KnownEndings (is_plain x) (is_accessor x) xs) (taken_endings ps) (taken_endings ps)
 endings_follows C x xs [] laid = failed _ _ _
 endings_follows C x xs (parts.Token l ∷ ps) laid = failed _ _ _
 endings_follows C x xs (parts.Counted ∷ ps) laid = failed _ _ _
 endings_follows C x xs (parts.Values ds raw ∷ ps) laid = failed _ _ _
-endings_follows C x xs (parts.Endings es ∷ ps) laid = done _ _ _ (es, ps) (λ h. (h.0, (h.1, h.2))) (laid.0.plain, laid.1)
+endings_follows C x xs (parts.Endings es ∷ ps) laid = done _ _ _ (es, ps) (λ h. (h.0, (h.1, h.2))) (laid.0.plain, laid.0.around, laid.1)
 endings_follows C x xs (parts.Items is ∷ ps) laid = failed _ _ _
 
 abbrev FlatList : Type 0 → List Item × List Part → Type 0
@@ -96,12 +96,12 @@ one_follows C (more d (more e es)) = failed _ _ _
 
 -- the fields that stay
 added : (b : Flow) (w : Work) (ds : Data) → Empty b w → Empty (adds b) (record w { values = ds })
-added b w ds e = record { values = λ t. absurd cc; held = e.held; directives = e.directives; endings = e.endings; items = e.items; raw = e.raw; plain = e.plain }
+added b w ds e = record { values = λ t. absurd cc; held = e.held; directives = e.directives; endings = e.endings; items = e.items; raw = e.raw; plain = e.plain; around = e.around }
 
 work_back : (w : Work) (ds : Data) → FlatWork (record w { values = join w.values ds }) → FlatWork w × FlatIn ds
 work_back w ds h = let s = flat_join w.values ds h.values in (record { values = s.0; held = h.held; directives = h.directives; endings = h.endings; items = h.items }, s.1)
 
-alone : (d : Datum) → FlatIn (one d) → depth_at d ≤ 512
+pub alone : (d : Datum) → FlatIn (one d) → depth_at d ≤ 512
 alone d h = omega (arith, h)
 
 value_follows : (b : Flow) (d : Datum) (w : Work) (xs : List Symbol) (ps : List Part) → Empty b w → Laid xs ps
@@ -117,7 +117,7 @@ tree_follows : (S : Type 0) (K : Tree → Type 0) (r q : Result Tree Fault) (b :
 tree_follows S K r q b w xs ps e laid h =
     andthen S (λ t. (FlatWork w × FlatParts ps) × Flat t) K FlatGot (Stepped (adds b) xs) r q (λ t. with_value (child t) w ps) (λ t. with_value (child t) w ps) h (λ t k. value_follows b (child t) w xs ps e laid)
 
-made_follows : (C : Type 0) (k : Kind) (ds : Data) → Follows C (λ t. C × Flat t) (λ t. branch k ds ≡ t) (limited k ds) (unlimited k ds)
+pub made_follows : (C : Type 0) (k : Kind) (ds : Data) → Follows C (λ t. C × Flat t) (λ t. branch k ds ≡ t) (limited k ds) (unlimited k ds)
 made_follows C k ds = weaker (C × FlatIn ds) C (λ t. C × Flat t) (λ t. branch k ds ≡ t) (limited k ds) (unlimited k ds) (λ h. h.0) (node_follows C k ds)
 
 flat_leaf : (p : Part) → LeafIf true p → FlatPart p
@@ -136,10 +136,10 @@ put_follows : (b : Flow) (w : Work) (x : Symbol) (xs : List Symbol) (ps : List P
 unfolding put
 put_follows b w x xs ps e laid =
     andthen (FlatGot (w, ps)) (FlatValues (FlatWork w)) (KnownValues xs) FlatGot (Stepped (adds b) xs) (taken_values ps) (taken_values ps) _ _ (values_follows (FlatWork w) x xs ps laid)
-    (λ v j. done _ _ _ (record w { values = join w.values v.0.0 }, v.1) (λ z. let k = work_back w v.0.0 z.0 in (k.0, k.1, z.1)) (added b w (join w.values v.0.0) e, j.1))
+    (λ v j. done _ _ _ (record w { values = join w.values v.0.0 }, v.1) (λ z. let k = work_back w v.0.0 z.0 in (k.0, k.1, z.1)) (added b w (join w.values v.0.0) e, j))
 
 raw_added : (b : Flow) (w : Work) (ds : Data) (raw : Option NameId) → Empty b w → Empty (with_raw b) (record w { values = ds; raw = raw })
-raw_added b w ds raw e = record { values = λ t. absurd cc; held = e.held; directives = e.directives; endings = e.endings; items = e.items; raw = λ t. absurd cc; plain = e.plain }
+raw_added b w ds raw e = record { values = λ t. absurd cc; held = e.held; directives = e.directives; endings = e.endings; items = e.items; raw = λ t. absurd cc; plain = e.plain; around = e.around }
 
 raw_back : (w : Work) (ds : Data) (raw : Option NameId) → FlatWork (record w { values = join w.values ds; raw = raw }) → FlatWork w × FlatIn ds
 raw_back w ds raw h = let s = flat_join w.values ds h.values in (record { values = s.0; held = h.held; directives = h.directives; endings = h.endings; items = h.items }, s.1)
@@ -148,13 +148,13 @@ operand_follows : (b : Flow) (w : Work) (x : Symbol) (xs : List Symbol) (ps : Li
 unfolding operand
 operand_follows b w x xs ps e laid =
     andthen (FlatGot (w, ps)) (FlatValues (FlatWork w)) (KnownValues xs) FlatGot (Stepped (with_raw b) xs) (taken_values ps) (taken_values ps) _ _ (values_follows (FlatWork w) x xs ps laid)
-    (λ v j. done _ _ _ (record w { values = join w.values v.0.0; raw = v.0.1 }, v.1) (λ z. let k = raw_back w v.0.0 v.0.1 z.0 in (k.0, k.1, z.1)) (raw_added b w (join w.values v.0.0) v.0.1 e, j.1))
+    (λ v j. done _ _ _ (record w { values = join w.values v.0.0; raw = v.0.1 }, v.1) (λ z. let k = raw_back w v.0.0 v.0.1 z.0 in (k.0, k.1, z.1)) (raw_added b w (join w.values v.0.0) v.0.1 e, j))
 
 wrap_follows : (b : Flow) (w : Work) (x : Symbol) (xs : List Symbol) (ps : List Part) → Empty b w → Laid (x ∷ xs) ps → Follows (FlatGot (w, ps)) FlatGot (Stepped (adds b) xs) (wrap w ps) (wrap w ps)
 unfolding wrap
 wrap_follows b w x xs ps e laid =
     andthen (FlatGot (w, ps)) (FlatValues (FlatWork w)) (KnownValues xs) FlatGot (Stepped (adds b) xs) (taken_values ps) (taken_values ps) _ _ (values_follows (FlatWork w) x xs ps laid)
-    (λ v j. weaker ((FlatWork w × FlatParts v.1) × FlatIn v.0.0) (FlatValues (FlatWork w) v) FlatGot (Stepped (adds b) xs) _ _ (λ h. (h.0.0, h.1, h.0.1)) (value_follows b (listed v.0.0) w xs v.1 e j.1))
+    (λ v j. weaker ((FlatWork w × FlatParts v.1) × FlatIn v.0.0) (FlatValues (FlatWork w) v) FlatGot (Stepped (adds b) xs) _ _ (λ h. (h.0.0, h.1, h.0.1)) (value_follows b (listed v.0.0) w xs v.1 e j))
 
 text_follows : (b : Flow) (w : Work) (x : Symbol) (xs : List Symbol) (ps : List Part) → Empty b w → Laid (x ∷ xs) ps → Follows (FlatGot (w, ps)) FlatGot (Stepped (adds b) xs) (text w ps) (text w ps)
 unfolding text
@@ -216,7 +216,7 @@ parameter_follows b w x y xs ps e laid =
                 (weaker ((FlatWork w × Flat t) × FlatParts l.1) (FlatGot (w, l.1) × Flat t) (FlatValues (FlatWork w × Flat t)) (KnownValues xs) (taken_values l.1) (taken_values l.1) (λ h. ((h.0.0, h.1), h.0.1)) (values_follows (FlatWork w × Flat t) y xs l.1 j))
                 (λ v jv. andthen (FlatValues (FlatWork w × Flat t) v) (λ d. ((FlatWork w × FlatParts v.1) × Flat t) × (depth_at d ≤ 512)) (λ d. v.0.0 ≡ one d) FlatGot (Stepped (adds b) xs) (one_value v.0.0) (one_value v.0.0) _ _
                     (weaker (((FlatWork w × FlatParts v.1) × Flat t) × FlatIn v.0.0) (FlatValues (FlatWork w × Flat t) v) (λ d. ((FlatWork w × FlatParts v.1) × Flat t) × (depth_at d ≤ 512)) (λ d. v.0.0 ≡ one d) (one_value v.0.0) (one_value v.0.0) (λ h. ((h.0.0.0, h.0.1), h.1, h.0.0.1)) (one_follows ((FlatWork w × FlatParts v.1) × Flat t) v.0.0))
-                    (λ d jd. tree_follows (((FlatWork w × FlatParts v.1) × Flat t) × (depth_at d ≤ 512)) (λ u. Unit {0}) (parameter_of limited t d) (parameter_of unlimited t d) b w xs v.1 e jv.1
+                    (λ d jd. tree_follows (((FlatWork w × FlatParts v.1) × Flat t) × (depth_at d ≤ 512)) (λ u. Unit {0}) (parameter_of limited t d) (parameter_of unlimited t d) b w xs v.1 e jv
                         (weaker ((FlatWork w × FlatParts v.1) × Flat t × (depth_at d ≤ 512)) (((FlatWork w × FlatParts v.1) × Flat t) × (depth_at d ≤ 512)) (λ u. (FlatWork w × FlatParts v.1) × Flat u) (λ u. Unit {0}) (parameter_of limited t d) (parameter_of unlimited t d) (λ h. ((h.0, h.1), h.2)) (parameter_of_follows (FlatWork w × FlatParts v.1) t d)))))))
 
 template_follows : (b : Flow) (w : Work) (x y : Symbol) (xs : List Symbol) (ps : List Part) → Empty b w → Laid (x ∷ y ∷ xs) ps → Follows (FlatGot (w, ps)) FlatGot (Stepped (adds b) xs) (template_part limited w ps) (template_part unlimited w ps)
@@ -226,14 +226,14 @@ template_follows b w x y xs ps e laid =
     (λ v jv. andthen (FlatValues (FlatWork w) v) (λ d. (FlatWork w × FlatParts v.1) × (depth_at d ≤ 512)) (λ d. v.0.0 ≡ one d) FlatGot (Stepped (adds b) xs) (one_value v.0.0) (one_value v.0.0) _ _
         (weaker ((FlatWork w × FlatParts v.1) × FlatIn v.0.0) (FlatValues (FlatWork w) v) (λ d. (FlatWork w × FlatParts v.1) × (depth_at d ≤ 512)) (λ d. v.0.0 ≡ one d) (one_value v.0.0) (one_value v.0.0) (λ h. (h.0.0, h.1, h.0.1)) (one_follows (FlatWork w × FlatParts v.1) v.0.0))
         (λ d jd. andthen ((FlatWork w × FlatParts v.1) × (depth_at d ≤ 512)) (FlatValues (FlatWork w × (depth_at d ≤ 512))) (KnownValues xs) FlatGot (Stepped (adds b) xs) (taken_values v.1) (taken_values v.1) _ _
-            (weaker ((FlatWork w × (depth_at d ≤ 512)) × FlatParts v.1) ((FlatWork w × FlatParts v.1) × (depth_at d ≤ 512)) (FlatValues (FlatWork w × (depth_at d ≤ 512))) (KnownValues xs) (taken_values v.1) (taken_values v.1) (λ h. ((h.0.0, h.1), h.0.1)) (values_follows (FlatWork w × (depth_at d ≤ 512)) y xs v.1 jv.1))
+            (weaker ((FlatWork w × (depth_at d ≤ 512)) × FlatParts v.1) ((FlatWork w × FlatParts v.1) × (depth_at d ≤ 512)) (FlatValues (FlatWork w × (depth_at d ≤ 512))) (KnownValues xs) (taken_values v.1) (taken_values v.1) (λ h. ((h.0.0, h.1), h.0.1)) (values_follows (FlatWork w × (depth_at d ≤ 512)) y xs v.1 jv))
             (λ u ju. andthen (FlatValues (FlatWork w × (depth_at d ≤ 512)) u) (λ f. ((FlatWork w × FlatParts u.1) × (depth_at d ≤ 512)) × (depth_at f.0 ≤ 512) × FlatIn f.1) (λ f. Unit {0}) FlatGot (Stepped (adds b) xs) (first_value u.0.0) (first_value u.0.0) _ _
                 (weaker (((FlatWork w × FlatParts u.1) × (depth_at d ≤ 512)) × FlatIn u.0.0) (FlatValues (FlatWork w × (depth_at d ≤ 512)) u) (λ f. ((FlatWork w × FlatParts u.1) × (depth_at d ≤ 512)) × (depth_at f.0 ≤ 512) × FlatIn f.1) (λ f. Unit {0}) (first_value u.0.0) (first_value u.0.0) (λ h. ((h.0.0.0, h.0.1), h.1, h.0.0.1)) (first_follows ((FlatWork w × FlatParts u.1) × (depth_at d ≤ 512)) u.0.0))
                 (λ f jf. andthen (((FlatWork w × FlatParts u.1) × (depth_at d ≤ 512)) × (depth_at f.0 ≤ 512) × FlatIn f.1) (λ t. ((FlatWork w × FlatParts u.1) × FlatIn f.1) × Flat t) (λ t. branch kinds.TemplatePart (two d f.0) ≡ t) FlatGot (Stepped (adds b) xs) (limited kinds.TemplatePart (two d f.0)) (unlimited kinds.TemplatePart (two d f.0)) _ _
                     (weaker (((FlatWork w × FlatParts u.1) × FlatIn f.1) × FlatIn (two d f.0)) (((FlatWork w × FlatParts u.1) × (depth_at d ≤ 512)) × (depth_at f.0 ≤ 512) × FlatIn f.1) (λ t. ((FlatWork w × FlatParts u.1) × FlatIn f.1) × Flat t) (λ t. branch kinds.TemplatePart (two d f.0) ≡ t) (limited kinds.TemplatePart (two d f.0)) (unlimited kinds.TemplatePart (two d f.0))
                         (λ h. let a : depth_in (two d f.0) ≤ 512 = h.1 in ((h.0.0, omega (arith, a)), omega (arith, a), h.0.1)) (node_follows ((FlatWork w × FlatParts u.1) × FlatIn f.1) kinds.TemplatePart (two d f.0)))
                     (λ t jt. done _ _ _ (record w { values = join w.values (more (child t) f.1) }, u.1)
-                        (λ z. let k = work_back w (more (child t) f.1) z.0 in let a : depth_in (more (child t) f.1) ≤ 512 = k.1 in (((k.0, z.1), omega (arith, a)), omega (arith, a))) (added b w (join w.values (more (child t) f.1)) e, ju.1))))))
+                        (λ z. let k = work_back w (more (child t) f.1) z.0 in let a : depth_in (more (child t) f.1) ≤ 512 = k.1 in (((k.0, z.1), omega (arith, a)), omega (arith, a))) (added b w (join w.values (more (child t) f.1)) e, ju))))))
 
 plain_join : (es fs : List Ending) → AllPlain es → AllPlain fs → AllPlain (es ++ fs)
 plain_join [] fs h k = k
@@ -244,22 +244,31 @@ plain_tail true true es fs h k e = plain_join es fs (h refl) k
 plain_tail true false es fs h k e = absurd cc
 plain_tail false b es fs h k e = absurd cc
 
+around_join : (es fs : List Ending) → AllAround es → AllAround fs → AllAround (es ++ fs)
+around_join [] fs h k = k
+around_join (e ∷ es) fs h k = (h.0, around_join es fs h.1 k)
+
+around_tail : (a b : Bool) (es fs : List Ending) → (a ≡ true → AllAround es) → Arounds b fs → (a && not b) ≡ true → AllAround (es ++ fs)
+around_tail true false es fs h k e = around_join es fs (h refl) k
+around_tail true true es fs h k e = absurd cc
+around_tail false b es fs h k e = absurd cc
+
 tail_follows : (b : Flow) (w : Work) (x : Symbol) (xs : List Symbol) (ps : List Part) → Empty b w → Laid (x ∷ xs) ps → Follows (FlatGot (w, ps)) FlatGot (Stepped (with_tail x b) xs) (tail w ps) (tail w ps)
 unfolding tail
 tail_follows b w x xs ps e laid =
-    andthen (FlatGot (w, ps)) (FlatTaken (FlatWork w)) (KnownEndings (is_plain x) xs) FlatGot (Stepped (with_tail x b) xs) (taken_endings ps) (taken_endings ps) _ _ (endings_follows (FlatWork w) x xs ps laid)
+    andthen (FlatGot (w, ps)) (FlatTaken (FlatWork w)) (KnownEndings (is_plain x) (is_accessor x) xs) FlatGot (Stepped (with_tail x b) xs) (taken_endings ps) (taken_endings ps) _ _ (endings_follows (FlatWork w) x xs ps laid)
     (λ t j. done _ _ _ (record w { endings = w.endings ++ t.0 }, t.1)
         (λ z. let s = flat_endings w.endings t.0 z.0.endings in (record { values = z.0.values; held = z.0.held; directives = z.0.directives; endings = s.0; items = z.0.items }, s.1, z.1))
-        (record { values = e.values; held = e.held; directives = e.directives; endings = λ t. absurd cc; items = e.items; raw = e.raw; plain = plain_tail b.plain (is_plain x) w.endings t.0 e.plain j.0 }, j.1))
+        (record { values = e.values; held = e.held; directives = e.directives; endings = λ t. absurd cc; items = e.items; raw = e.raw; plain = plain_tail b.plain (is_plain x) w.endings t.0 e.plain j.0; around = around_tail b.around (is_accessor x) w.endings t.0 e.around j.1 }, j.2))
 
 not_true : (b : Bool) → not b ≡ true → b ≡ false
 not_true true e = sym e
 not_true false e = refl
 
-no_items : (is : List Item) → is ≡ [] → FlatItems is
+pub no_items : (is : List Item) → is ≡ [] → FlatItems is
 no_items is e = subst FlatItems (sym e) tt
 
-no_data : (ds : Data) → ds ≡ none → FlatIn ds
+pub no_data : (ds : Data) → ds ≡ none → FlatIn ds
 no_data ds e = let z : depth_in none ≤ 512 = omega arith in subst FlatIn (sym e) z
 
 rest_follows : (b : Flow) (w : Work) (x : Symbol) (xs : List Symbol) (ps : List Part) → b.items ≡ false → Empty b w → Laid (x ∷ xs) ps → Follows (FlatGot (w, ps)) FlatGot (Stepped (with_rest b) xs) (rest w ps) (rest w ps)
@@ -268,7 +277,7 @@ rest_follows b w x xs ps free e laid =
     andthen (FlatGot (w, ps)) (FlatList (FlatWork w)) (KnownItems xs) FlatGot (Stepped (with_rest b) xs) (taken_items ps) (taken_items ps) _ _ (items_follows (FlatWork w) x xs ps laid)
     (λ i j. done _ _ _ (record w { items = i.0 }, i.1)
         (λ z. (record { values = z.0.values; held = z.0.held; directives = z.0.directives; endings = z.0.endings; items = no_items w.items (e.items free) }, z.0.items, z.1))
-        (record { values = e.values; held = e.held; directives = e.directives; endings = e.endings; items = λ t. absurd cc; raw = e.raw; plain = e.plain }, j.1))
+        (record { values = e.values; held = e.held; directives = e.directives; endings = e.endings; items = λ t. absurd cc; raw = e.raw; plain = e.plain; around = e.around }, j.1))
 
 all_flat : (is : List Item) → FlatIn (statements is) → FlatItems is
 all_flat [] h = tt
@@ -313,13 +322,13 @@ body_follows b w x xs ps free e laid =
                 in let a : depth_in (one (listed (statements (behind_directives i.0)))) ≤ 512 = s.1
                 in let c : depth_in (statements (behind_directives i.0)) ≤ 512 = omega (arith, a)
                 in (record { values = s.0; held = z.0.held; directives = no_data w.directives (e.directives free); endings = z.0.endings; items = z.0.items }, flat_items i.0 j.0 c, z.1))
-            (record { values = λ t. absurd cc; held = e.held; directives = λ t. absurd cc; endings = e.endings; items = e.items; raw = e.raw; plain = e.plain }, j.1)))
+            (record { values = λ t. absurd cc; held = e.held; directives = λ t. absurd cc; endings = e.endings; items = e.items; raw = e.raw; plain = e.plain; around = e.around }, j.1)))
 
 hold_follows : (b : Flow) (w : Work) (xs : List Symbol) (ps : List Part) → b.held ≡ false → Empty b w → Laid xs ps → Follows {A = Work × List Part} (FlatGot (w, ps)) FlatGot (Stepped (holds b) xs) (Ok (hold w, ps)) (Ok (hold w, ps))
 unfolding hold
 hold_follows b w xs ps free e laid =
     done _ _ _ (hold w, ps) (λ z. (record { values = z.0.held; held = no_data w.held (e.held free); directives = z.0.directives; endings = z.0.endings; items = z.0.items }, z.1))
-    (record { values = λ t. refl; held = e.values; directives = e.directives; endings = e.endings; items = e.items; raw = e.raw; plain = e.plain }, laid)
+    (record { values = λ t. refl; held = e.values; directives = e.directives; endings = e.endings; items = e.items; raw = e.raw; plain = e.plain; around = e.around }, laid)
 
 resume_follows : (b : Flow) (w : Work) (xs : List Symbol) (ps : List Part) → Empty b w → Laid xs ps → Follows {A = Work × List Part} (FlatGot (w, ps)) FlatGot (Stepped (resumes b) xs) (Ok (resume w, ps)) (Ok (resume w, ps))
 unfolding resume
@@ -328,7 +337,7 @@ resume_follows b w xs ps e laid =
     (λ z. let s = flat_join w.held (more (listed w.directives) w.values) z.0.values
         in let a : depth_in (more (listed w.directives) w.values) ≤ 512 = s.1
         in (record { values = omega (arith, a); held = s.0; directives = omega (arith, a); endings = z.0.endings; items = z.0.items }, z.1))
-    (record { values = λ t. absurd cc; held = λ t. refl; directives = λ t. refl; endings = e.endings; items = e.items; raw = e.raw; plain = e.plain }, laid)
+    (record { values = λ t. absurd cc; held = λ t. refl; directives = λ t. refl; endings = e.endings; items = e.items; raw = e.raw; plain = e.plain; around = e.around }, laid)
 
 -- the work but for its values
 record FlatRest (w : Work) : Type 0 where

@@ -1,5 +1,5 @@
 -- How the parts on the stack are laid out, and what a row's work may hold.
-use Rattle.std.proofs.Common.{◌≡◌, ◌≤◌, ℕ, Bool, true, false, not, ◌&&◌, List, [], ◌∷◌, Option, Some, None, refl}
+use Rattle.std.proofs.Common.{◌≡◌, ◌≤◌, ℕ, cond, Bool, true, false, not, ◌&&◌, List, [], ◌∷◌, Option, Some, None, refl}
 use Rattle.bast_base.specs.declared.errors.NameId.{NameId}
 use Rattle.bast_schema.specs.Tree.{Tree, Data, none, depth, depth_in}
 use Rattle.js_grammar.specs.declared.symbols.Symbol.{Symbol}
@@ -37,10 +37,34 @@ abbrev pub PlainEnds : Bool → List Ending → Type 0
 PlainEnds true es = AllPlain es
 PlainEnds false es = Unit {0}
 
--- what has the raw text of one string is not deep
-abbrev pub SmallIf : Option NameId → Data → Type 0
-SmallIf None ds = Unit {0}
-SmallIf (Some n) ds = depth_in ds ≤ 2
+-- a node is put around the operand
+abbrev pub IsAround : Ending → Type 0
+IsAround (endings.Around k form before behind) = Unit {0}
+IsAround (endings.Instead t) = ⊥
+
+abbrev pub AllAround : List Ending → Type 0
+AllAround [] = Unit {0}
+AllAround (e ∷ es) = IsAround e × AllAround es
+
+-- around each but the first, which may stand in its place
+abbrev pub FirstInstead : List Ending → Type 0
+FirstInstead [] = Unit {0}
+FirstInstead (e ∷ es) = AllAround es
+
+abbrev pub Arounds : Bool → List Ending → Type 0
+Arounds true es = FirstInstead es
+Arounds false es = AllAround es
+
+-- an expression of one string is one node deep, and a statement of one two
+abbrev pub is_statement : Symbol → Bool
+is_statement symbols.Stat = true
+is_statement symbols.Item = true
+is_statement symbols.Body = true
+is_statement _ = false
+
+abbrev pub SmallIf : Bool → Option NameId → Data → Type 0
+SmallIf b None ds = Unit {0}
+SmallIf b (Some n) ds = depth_in ds ≤ cond b 2 1
 
 abbrev pub SmallTree : Option NameId → Tree → Type 0
 SmallTree None t = Unit {0}
@@ -50,12 +74,12 @@ abbrev pub RawItems : List Item → Type 0
 RawItems [] = Unit {0}
 RawItems (i ∷ is) = SmallTree i.raw i.statement × RawItems is
 
-abbrev pub RawPart : Part → Type 0
-RawPart (parts.Token l) = Unit {0}
-RawPart parts.Counted = Unit {0}
-RawPart (parts.Values ds raw) = SmallIf raw ds
-RawPart (parts.Endings es) = Unit {0}
-RawPart (parts.Items is) = RawItems is
+abbrev pub RawPart : Bool → Part → Type 0
+RawPart b (parts.Token l) = Unit {0}
+RawPart b parts.Counted = Unit {0}
+RawPart b (parts.Values ds raw) = SmallIf b raw ds
+RawPart b (parts.Endings es) = Unit {0}
+RawPart b (parts.Items is) = RawItems is
 
 abbrev pub LeafIf : Bool → Part → Type 0
 LeafIf false p = Unit {0}
@@ -72,6 +96,13 @@ PlainIf b parts.Counted = Unit {0}
 PlainIf b (parts.Values ds raw) = Unit {0}
 PlainIf b (parts.Items is) = Unit {0}
 
+abbrev pub AroundIf : Bool → Part → Type 0
+AroundIf b (parts.Endings es) = Arounds b es
+AroundIf b (parts.Token l) = Unit {0}
+AroundIf b parts.Counted = Unit {0}
+AroundIf b (parts.Values ds raw) = Unit {0}
+AroundIf b (parts.Items is) = Unit {0}
+
 -- a token or a semicolon
 abbrev pub is_leaf : Symbol → Bool
 is_leaf symbols.Semi = true
@@ -84,10 +115,17 @@ is_plain symbols.ForRest = true
 is_plain symbols.ForExpr = true
 is_plain _ = false
 
+-- what follows `get` or `set`, which may be a getter or a setter
+abbrev pub is_accessor : Symbol → Bool
+is_accessor symbols.GetRest = true
+is_accessor symbols.SetRest = true
+is_accessor _ = false
+
 pub record Suits (s : Symbol) (p : Part) : Type 0 where
   pub leaf : LeafIf (is_leaf s) p
-  pub small : RawPart p
+  pub small : RawPart (is_statement s) p
   pub plain : PlainIf (is_plain s) p
+  pub around : AroundIf (is_accessor s) p
 
 -- one part for each symbol
 abbrev pub Laid : List Symbol → List Part → Type 0
@@ -105,6 +143,7 @@ pub record Flow : Type 0 where
   pub items : Bool
   pub raw : Bool
   pub plain : Bool
+  pub around : Bool
 
 pub record Empty (b : Flow) (w : Work) : Type 0 where
   pub values : b.values ≡ false → w.values ≡ none
@@ -114,9 +153,10 @@ pub record Empty (b : Flow) (w : Work) : Type 0 where
   pub items : b.items ≡ false → w.items ≡ []
   pub raw : b.raw ≡ false → w.raw ≡ None
   pub plain : b.plain ≡ true → AllPlain w.endings
+  pub around : b.around ≡ true → AllAround w.endings
 
 abbrev pub no_flow : Flow
-no_flow = record { values = false; held = false; directives = false; endings = false; items = false; raw = false; plain = true }
+no_flow = record { values = false; held = false; directives = false; endings = false; items = false; raw = false; plain = true; around = true }
 
 abbrev pub adds : Flow → Flow
 adds b = record b { values = true }
@@ -125,7 +165,7 @@ abbrev pub with_raw : Flow → Flow
 with_raw b = record b { values = true; raw = true }
 
 abbrev pub with_tail : Symbol → Flow → Flow
-with_tail x b = record b { endings = true; plain = b.plain && is_plain x }
+with_tail x b = record b { endings = true; plain = b.plain && is_plain x; around = b.around && not (is_accessor x) }
 
 abbrev pub with_rest : Flow → Flow
 with_rest b = record b { items = true }
@@ -218,18 +258,18 @@ after_all (s ∷ ss) xs b = after_all ss (left_by s xs) (after s xs b)
 abbrev pub may_finish : Finish → Flow → Bool
 may_finish finishes.Same b = not b.values && not b.held && not b.directives && not b.endings && not b.items
 may_finish finishes.Values b = not b.held && not b.directives && not b.endings && not b.items
-may_finish finishes.Folds b = not b.held && not b.directives && not b.items
-may_finish (finishes.Ends k) b = not b.directives && not b.items
-may_finish (finishes.EndsParameters k) b = not b.directives && not b.items
-may_finish (finishes.EndsLabel k) b = not b.directives && not b.items
-may_finish finishes.Endings b = not b.values && not b.held && not b.directives && not b.items
+may_finish finishes.Folds b = b.around && not b.held && not b.directives && not b.items
+may_finish (finishes.Ends k) b = b.around && not b.directives && not b.items
+may_finish (finishes.EndsParameters k) b = b.around && not b.directives && not b.items
+may_finish (finishes.EndsLabel k) b = b.around && not b.directives && not b.items
+may_finish finishes.Endings b = b.around && not b.values && not b.held && not b.directives && not b.items
 may_finish finishes.Fills b = b.plain && not b.held && not b.directives && not b.items
 may_finish (finishes.Binds how) b = not b.held && not b.directives && not b.items
 may_finish finishes.Declares b = b.plain && not b.held && not b.directives && not b.items
 may_finish finishes.ArrowBody b = not b.held && not b.endings && not b.items
-may_finish finishes.Tries b = not b.directives && not b.items
+may_finish finishes.Tries b = b.around && not b.directives && not b.items
 may_finish finishes.Sequence b = not b.directives && not b.endings && not b.items
-may_finish finishes.Statement b = not b.held && not b.directives && not b.items
+may_finish finishes.Statement b = b.around && not b.held && not b.directives && not b.items
 may_finish finishes.Property b = not b.held && not b.directives && not b.items
 may_finish finishes.Instead b = not b.held && not b.directives && not b.endings && not b.items
 may_finish finishes.Items b = not b.held && not b.directives && not b.endings

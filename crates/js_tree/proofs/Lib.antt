@@ -1,5 +1,6 @@
 pub mod Broken
 pub mod Finishing
+pub mod FollowFinishes
 pub mod FollowSteps
 pub mod Following
 pub mod Gathering
