@@ -144,11 +144,11 @@ replaced_follows C (endings.Instead u ∷ es) t first idents ident flat =
     weaker (C × FlatEndings es × Flat u) (C × FlatEndings (endings.Instead u ∷ es) × Flat t) (λ v. C × Flat v) (λ v. Unit {0}) _ _ (λ h. (h.0, (h.2, h.1), flat)) (folded_follows C es u first idents.1 idents.0)
 
 -- what is given on either side of a test
-either_follows : {A : Type 0} (S : Type 0) (T K : A → Type 0) (b : Bool) (r q s u : Result A Fault) → (b ≡ true → Follows S T K r q) → (b ≡ false → Follows S T K s u) → Follows S T K (cond b r s) (cond b q u)
+pub either_follows : {A : Type 0} (S : Type 0) (T K : A → Type 0) (b : Bool) (r q s u : Result A Fault) → (b ≡ true → Follows S T K r q) → (b ≡ false → Follows S T K s u) → Follows S T K (cond b r s) (cond b q u)
 either_follows S T K true r q s u h k = h refl
 either_follows S T K false r q s u h k = k refl
 
-one_node_follows : (C : Type 0) (ds : Data) → Follows (C × FlatIn ds) (λ t. C × Flat t) (λ t. ds ≡ one (child t)) (one_node ds) (one_node ds)
+pub one_node_follows : (C : Type 0) (ds : Data) → Follows (C × FlatIn ds) (λ t. C × Flat t) (λ t. ds ≡ one (child t)) (one_node ds) (one_node ds)
 one_node_follows C ds =
     andthen (C × FlatIn ds) (λ d. C × (depth_at d ≤ 512)) (λ d. ds ≡ one d) (λ t. C × Flat t) (λ t. ds ≡ one (child t)) (one_value ds) (one_value ds) node_in node_in (one_follows C ds) (λ d j. by_node C d ds j)
   where
@@ -171,7 +171,7 @@ no_more : (es : List Ending) → (length es == 0) ≡ true → FlatEndings es
 no_more [] is = tt
 no_more (f ∷ fs) is = absurd (none_left f fs (eqb-true (length (f ∷ fs)) 0 is))
 
-one_ending_follows : (C : Type 0) (es : List Ending) → Follows (C × FlatEndings es) (λ e. C × FlatEnding e) (λ e. (AllPlain es → PlainEnding e)) (one_ending es) (one_ending es)
+pub one_ending_follows : (C : Type 0) (es : List Ending) → Follows (C × FlatEndings es) (λ e. C × FlatEnding e) (λ e. (AllPlain es → PlainEnding e)) (one_ending es) (one_ending es)
 one_ending_follows C [] = failed _ _ _
 one_ending_follows C (e ∷ es) =
     either_follows (C × FlatEndings (e ∷ es)) (λ f. C × FlatEnding f) (λ f. (AllPlain (e ∷ es) → PlainEnding f)) (length es == 0) (Ok e) (Ok e) broken broken
@@ -184,17 +184,17 @@ no_endings es e = subst FlatEndings (sym e) tt
 pub record Head (s : Symbol) : Type 0 where
   pub no_leaf : is_leaf s ≡ false
 
-head_values : (s : Symbol) → Head s → (ds : Data) (raw : Option NameId) → SmallIf (is_statement s) raw ds → Suits s (parts.Values ds raw)
+pub head_values : (s : Symbol) → Head s → (ds : Data) (raw : Option NameId) → SmallIf (is_statement s) raw ds → Suits s (parts.Values ds raw)
 head_values s head ds raw small = record { leaf = subst (λ b. LeafIf b (parts.Values ds raw)) (sym head.no_leaf) tt; small = small; plain = tt; around = tt }
 
-head_items : (s : Symbol) → Head s → (is : List Item) → RawItems is → Suits s (parts.Items is)
+pub head_items : (s : Symbol) → Head s → (is : List Item) → RawItems is → Suits s (parts.Items is)
 head_items s head is small = record { leaf = subst (λ b. LeafIf b (parts.Items is)) (sym head.no_leaf) tt; small = small; plain = tt; around = tt }
 
 plain_ends : (p : Bool) (es : List Ending) → (p ≡ true → AllPlain es) → PlainEnds p es
 plain_ends true es h = h refl
 plain_ends false es h = tt
 
-first_of_all : (es : List Ending) → AllAround es → FirstInstead es
+pub first_of_all : (es : List Ending) → AllAround es → FirstInstead es
 first_of_all [] h = tt
 first_of_all (e ∷ es) h = h.1
 
@@ -202,19 +202,19 @@ all_arounds : (a : Bool) (es : List Ending) → AllAround es → Arounds a es
 all_arounds true es h = first_of_all es h
 all_arounds false es h = h
 
-head_endings : (s : Symbol) → Head s → (es : List Ending) → (is_plain s ≡ true → AllPlain es) → AllAround es → Suits s (parts.Endings es)
+pub head_endings : (s : Symbol) → Head s → (es : List Ending) → (is_plain s ≡ true → AllPlain es) → AllAround es → Suits s (parts.Endings es)
 head_endings s head es plain around = record { leaf = subst (λ b. LeafIf b (parts.Endings es)) (sym head.no_leaf) tt; small = tt; plain = plain_ends (is_plain s) es plain; around = all_arounds (is_accessor s) es around }
 
 abbrev pub Finishes : Symbol → List Symbol → Type 0 → Result (List Part) Fault → Result (List Part) Fault → Type 0
 Finishes s outer S r q = Follows S FlatParts (Laid (s ∷ outer)) r q
 
-tree_end : (s : Symbol) (outer : List Symbol) (ps : List Part) (S : Type 0) (K : Tree → Type 0) (r q : Result Tree Fault) → Head s → Laid outer ps → Follows S (λ t. FlatParts ps × Flat t) K r q
+pub tree_end : (s : Symbol) (outer : List Symbol) (ps : List Part) (S : Type 0) (K : Tree → Type 0) (r q : Result Tree Fault) → Head s → Laid outer ps → Follows S (λ t. FlatParts ps × Flat t) K r q
     → Finishes s outer S (r >>= λ t. Ok (parts.Values (one (child t)) None ∷ ps)) (q >>= λ t. Ok (parts.Values (one (child t)) None ∷ ps))
 tree_end s outer ps S K r q head laid h =
     andthen S (λ t. FlatParts ps × Flat t) K FlatParts (Laid (s ∷ outer)) r q (λ t. Ok (parts.Values (one (child t)) None ∷ ps)) (λ t. Ok (parts.Values (one (child t)) None ∷ ps)) h
     (λ t j. done _ _ _ (parts.Values (one (child t)) None ∷ ps) (λ z. (z.1, alone (child t) z.0)) (head_values s head (one (child t)) None tt, laid))
 
-endings_end : (s : Symbol) (outer : List Symbol) (ps : List Part) (S : Type 0) (es : List Ending) → Head s → Laid outer ps → (is_plain s ≡ true → AllPlain es) → AllAround es → (FlatEndings es × FlatParts ps → S)
+pub endings_end : (s : Symbol) (outer : List Symbol) (ps : List Part) (S : Type 0) (es : List Ending) → Head s → Laid outer ps → (is_plain s ≡ true → AllPlain es) → AllAround es → (FlatEndings es × FlatParts ps → S)
     → Finishes s outer S (Ok (parts.Endings es ∷ ps)) (Ok (parts.Endings es ∷ ps))
 endings_end s outer ps S es head laid plain around back = done _ _ _ (parts.Endings es ∷ ps) (λ z. back (z.0, z.1)) (head_endings s head es plain around, laid)
 
@@ -224,10 +224,10 @@ pub record Spare (w : Work) : Type 0 where
   pub directives : w.directives ≡ none
   pub items : w.items ≡ []
 
-with_spare : (w : Work) → Spare w → FlatIn w.values → FlatEndings w.endings → FlatWork w
+pub with_spare : (w : Work) → Spare w → FlatIn w.values → FlatEndings w.endings → FlatWork w
 with_spare w spare values endings = record { values = values; held = no_data w.held spare.held; directives = no_data w.directives spare.directives; endings = endings; items = no_items w.items spare.items }
 
-small_up : (b : Bool) (raw : Option NameId) (ds : Data) → SmallIf false raw ds → SmallIf b raw ds
+pub small_up : (b : Bool) (raw : Option NameId) (ds : Data) → SmallIf false raw ds → SmallIf b raw ds
 small_up false raw ds h = h
 small_up true None ds h = tt
 small_up true (Some n) ds h = omega (arith, h)
@@ -235,7 +235,7 @@ small_up true (Some n) ds h = omega (arith, h)
 ident_of : (ds : Data) (t : Tree) → ds ≡ one (child t) → Each IsIdent ds → IsIdent (child t)
 ident_of ds t e h = let r = subst (Each IsIdent) e h in r.0
 
-folds_finish : (s : Symbol) (outer : List Symbol) (w : Work) (ps : List Part) → Head s → Laid outer ps → Spare w → AllAround w.endings → HoldsWork IsIdent w → SmallIf false w.raw w.values
+pub folds_finish : (s : Symbol) (outer : List Symbol) (w : Work) (ps : List Part) → Head s → Laid outer ps → Spare w → AllAround w.endings → HoldsWork IsIdent w → SmallIf false w.raw w.values
     → Finishes s outer (FlatGot (w, ps)) (folds limited w ps) (folds unlimited w ps)
 unfolding folds
 folds_finish s outer w ps head laid spare around idents small =
@@ -252,7 +252,7 @@ statement_depth : (raw : Option NameId) (ds : Data) (t : Tree) → branch kinds.
 statement_depth None ds t e small = tt
 statement_depth (Some n) ds t e small = let a : depth_in ds ≤ 1 = small in let d : depth (branch kinds.ExpressionStatement ds) ≤ 2 = omega (arith, a) in let r : depth t ≤ 2 = subst (λ t. depth t ≤ 2) e d in omega (arith, r)
 
-statement_finish : (s : Symbol) (outer : List Symbol) (w : Work) (ps : List Part) → is_statement s ≡ true → Head s → Laid outer ps → Spare w → AllAround w.endings → HoldsWork IsIdent w → SmallIf false w.raw w.values
+pub statement_finish : (s : Symbol) (outer : List Symbol) (w : Work) (ps : List Part) → is_statement s ≡ true → Head s → Laid outer ps → Spare w → AllAround w.endings → HoldsWork IsIdent w → SmallIf false w.raw w.values
     → Finishes s outer (FlatGot (w, ps)) (statement limited w ps) (statement unlimited w ps)
 unfolding statement
 statement_finish s outer w ps is_one head laid spare around idents small =
@@ -275,7 +275,7 @@ property_name_flat ds t e small = let d : depth (branch kinds.LiteralPropertyNam
 property_ident : (ds : Data) (t : Tree) → branch kinds.LiteralPropertyName ds ≡ t → IsIdent (child t)
 property_ident ds t e = subst (λ t. IsIdent (child t)) e (λ n f. no_name_of false (first_name ds) n refl f)
 
-property_finish : (s : Symbol) (outer : List Symbol) (w : Work) (ps : List Part) → Head s → Laid outer ps → Spare w → FirstInstead w.endings → HoldsWork IsIdent w → depth_in w.values ≤ 1
+pub property_finish : (s : Symbol) (outer : List Symbol) (w : Work) (ps : List Part) → Head s → Laid outer ps → Spare w → FirstInstead w.endings → HoldsWork IsIdent w → depth_in w.values ≤ 1
     → Finishes s outer (FlatGot (w, ps)) (property limited w ps) (property unlimited w ps)
 unfolding property
 property_finish s outer w ps head laid spare first idents small =
@@ -289,14 +289,14 @@ property_finish s outer w ps head laid spare first idents small =
             (weaker (FlatParts ps × FlatEndings w.endings × Flat t) ((FlatEndings w.endings × FlatParts ps) × Flat t) (λ u. FlatParts ps × Flat u) (λ u. Unit {0}) _ _ (λ h. ((h.1, h.0), h.2))
                 (replaced_follows (FlatParts ps) w.endings t first idents.endings (property_ident w.values t j) (property_name_flat w.values t j small)))))
 
-plain_flat : (f : Form) → PlainForm f → FlatForm f
+pub plain_flat : (f : Form) → PlainForm f → FlatForm f
 plain_flat forms.Plain h = tt
 plain_flat forms.Parameters h = tt
 plain_flat (forms.Contents body) h = absurd h
 plain_flat forms.Label h = tt
 plain_flat (forms.Declared ds) h = absurd h
 
-not_plain : (p : Bool) → p ≡ false → {A : Type 0} → p ≡ true → A
+pub not_plain : (p : Bool) → p ≡ false → {A : Type 0} → p ≡ true → A
 not_plain true e f = absurd cc
 not_plain false e f = absurd cc
 
@@ -306,7 +306,7 @@ filled_finish s outer (endings.Around k form before behind) d ps np head laid pl
     (λ z. let s = flat_join before (more d behind) z.0.0.1 in let a : depth_in (more d behind) ≤ 512 = s.1 in (z.1, (plain_flat form plain, s.0, omega (arith, a)), omega (arith, a)))
 filled_finish s outer (endings.Instead t) d ps np head laid plain = failed _ _ _
 
-fills_finish : (s : Symbol) (outer : List Symbol) (w : Work) (ps : List Part) → is_plain s ≡ false → Head s → Laid outer ps → Spare w → AllPlain w.endings → Finishes s outer (FlatGot (w, ps)) (fills w ps) (fills w ps)
+pub fills_finish : (s : Symbol) (outer : List Symbol) (w : Work) (ps : List Part) → is_plain s ≡ false → Head s → Laid outer ps → Spare w → AllPlain w.endings → Finishes s outer (FlatGot (w, ps)) (fills w ps) (fills w ps)
 unfolding fills
 fills_finish s outer w ps np head laid spare plain =
     weaker ((FlatParts ps × FlatEndings w.endings) × FlatIn w.values) (FlatGot (w, ps)) FlatParts (Laid (s ∷ outer)) _ _ (λ h. (with_spare w spare h.1 h.0.1, h.0.0))

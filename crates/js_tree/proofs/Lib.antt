@@ -1,6 +1,7 @@
 pub mod Broken
 pub mod Finishing
 pub mod FollowFinishes
+pub mod FollowRows
 pub mod FollowSteps
 pub mod Following
 pub mod Gathering
