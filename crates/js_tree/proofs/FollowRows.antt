@@ -69,7 +69,7 @@ bound_finish s outer how b (endings.Around k form before behind) ps np head laid
             (λ z. let s = flat_join before (more (child t) behind) z.0.0.1 in let a : depth_in (more (child t) behind) ≤ 512 = s.1 in ((z.1, s.0, omega (arith, a)), omega (arith, a)))))
 bound_finish s outer how b (endings.Instead t) ps np head laid = failed _ _ _
 
-binds_finish : (s : Symbol) (outer : List Symbol) (how : Declared) (w : Work) (ps : List Part) → is_plain s ≡ false → Head s → Laid outer ps → Spare w → Finishes s outer (FlatGot (w, ps)) (binds limited how w ps) (binds unlimited how w ps)
+pub binds_finish : (s : Symbol) (outer : List Symbol) (how : Declared) (w : Work) (ps : List Part) → is_plain s ≡ false → Head s → Laid outer ps → Spare w → Finishes s outer (FlatGot (w, ps)) (binds limited how w ps) (binds unlimited how w ps)
 unfolding binds
 binds_finish s outer how w ps np head laid spare =
     weaker ((FlatParts ps × FlatEndings w.endings) × FlatIn w.values) (FlatGot (w, ps)) FlatParts (Laid (s ∷ outer)) _ _ (λ h. (with_spare w spare h.1 h.0.1, h.0.0))
@@ -84,26 +84,26 @@ declaring_finish s outer ds (endings.Around k form before behind) ps np head lai
     (λ z. ((z.1, z.0.0.0), (plain_flat form plain, z.0.0.1, z.0.0.2)))
 declaring_finish s outer ds (endings.Instead t) ps np head laid plain = failed _ _ _
 
-declares_finish : (s : Symbol) (outer : List Symbol) (w : Work) (ps : List Part) → is_plain s ≡ false → Head s → Laid outer ps → Spare w → AllPlain w.endings → Finishes s outer (FlatGot (w, ps)) (declares w ps) (declares w ps)
+pub declares_finish : (s : Symbol) (outer : List Symbol) (w : Work) (ps : List Part) → is_plain s ≡ false → Head s → Laid outer ps → Spare w → AllPlain w.endings → Finishes s outer (FlatGot (w, ps)) (declares w ps) (declares w ps)
 unfolding declares
 declares_finish s outer w ps np head laid spare plain =
     weaker ((FlatParts ps × FlatIn w.values) × FlatEndings w.endings) (FlatGot (w, ps)) FlatParts (Laid (s ∷ outer)) _ _ (λ h. (with_spare w spare h.0.1 h.1, h.0.0))
     (andthen ((FlatParts ps × FlatIn w.values) × FlatEndings w.endings) (λ e. (FlatParts ps × FlatIn w.values) × FlatEnding e) (λ e. (AllPlain w.endings → PlainEnding e)) FlatParts (Laid (s ∷ outer)) (one_ending w.endings) (one_ending w.endings) (λ e. declaring w.values e ps) (λ e. declaring w.values e ps) (one_ending_follows (FlatParts ps × FlatIn w.values) w.endings)
         (λ e k. declaring_finish s outer w.values e ps np head laid (k plain)))
 
-arrow_finish : (s : Symbol) (outer : List Symbol) (w : Work) (ps : List Part) → is_plain s ≡ false → Head s → Laid outer ps → w.held ≡ none → w.endings ≡ [] → w.items ≡ [] → Finishes s outer (FlatGot (w, ps)) (arrow_body w ps) (arrow_body w ps)
+pub arrow_finish : (s : Symbol) (outer : List Symbol) (w : Work) (ps : List Part) → is_plain s ≡ false → Head s → Laid outer ps → w.held ≡ none → w.endings ≡ [] → w.items ≡ [] → Finishes s outer (FlatGot (w, ps)) (arrow_body w ps) (arrow_body w ps)
 unfolding arrow_body
 arrow_finish s outer w ps np head laid held ends items =
     endings_end s outer ps (FlatGot (w, ps)) (endings.Around kinds.EagerArrowExpressionWithFunctionBody (forms.Contents w.values) (one (listed w.directives)) none ∷ []) head laid (not_plain (is_plain s) np) (tt, tt)
     (λ z. (record { values = z.0.0.0; held = no_data w.held held; directives = alone (listed w.directives) z.0.0.1; endings = no_endings w.endings ends; items = no_items w.items items }, z.1))
 
-ends_finish : (s : Symbol) (outer : List Symbol) (k : Kind) (form : Form) (w : Work) (ps : List Part) → Head s → Laid outer ps → w.directives ≡ none → w.items ≡ [] → AllAround w.endings → (is_plain s ≡ true → PlainForm form × AllPlain w.endings)
+pub ends_finish : (s : Symbol) (outer : List Symbol) (k : Kind) (form : Form) (w : Work) (ps : List Part) → Head s → Laid outer ps → w.directives ≡ none → w.items ≡ [] → AllAround w.endings → (is_plain s ≡ true → PlainForm form × AllPlain w.endings)
     → Finishes s outer (FlatGot (w, ps)) (Ok (parts.Endings (endings.Around k form w.held w.values ∷ w.endings) ∷ ps)) (Ok (parts.Endings (endings.Around k form w.held w.values ∷ w.endings) ∷ ps))
 ends_finish s outer k form w ps head laid directives items around plain =
     endings_end s outer ps (FlatGot (w, ps)) (endings.Around k form w.held w.values ∷ w.endings) head laid plain (tt, around)
     (λ z. (record { values = z.0.0.2; held = z.0.0.1; directives = no_data w.directives directives; endings = z.0.1; items = no_items w.items items }, z.1))
 
-tries_finish : (s : Symbol) (outer : List Symbol) (w : Work) (ps : List Part) → is_plain s ≡ false → Head s → Laid outer ps → w.directives ≡ none → w.items ≡ [] → AllAround w.endings → Finishes s outer (FlatGot (w, ps)) (tries w ps) (tries w ps)
+pub tries_finish : (s : Symbol) (outer : List Symbol) (w : Work) (ps : List Part) → is_plain s ≡ false → Head s → Laid outer ps → w.directives ≡ none → w.items ≡ [] → AllAround w.endings → Finishes s outer (FlatGot (w, ps)) (tries w ps) (tries w ps)
 unfolding tries
 tries_finish s outer w ps np head laid directives items around = ends_finish s outer (try_kind w.values) forms.Plain w ps head laid directives items around (not_plain (is_plain s) np)
 
@@ -111,7 +111,7 @@ none_flat : (ds : Data) → is_none ds ≡ true → FlatIn ds
 none_flat none e = omega arith
 none_flat (more d ds) e = absurd cc
 
-sequence_finish : (s : Symbol) (outer : List Symbol) (w : Work) (ps : List Part) → Head s → Laid outer ps → w.directives ≡ none → w.endings ≡ [] → w.items ≡ [] → SmallIf false w.raw w.held → Finishes s outer (FlatGot (w, ps)) (sequence limited w ps) (sequence unlimited w ps)
+pub sequence_finish : (s : Symbol) (outer : List Symbol) (w : Work) (ps : List Part) → Head s → Laid outer ps → w.directives ≡ none → w.endings ≡ [] → w.items ≡ [] → SmallIf false w.raw w.held → Finishes s outer (FlatGot (w, ps)) (sequence limited w ps) (sequence unlimited w ps)
 unfolding sequence
 sequence_finish s outer w ps head laid directives ends items small =
     either_follows (FlatGot (w, ps)) FlatParts (Laid (s ∷ outer)) (is_none w.values) (Ok (parts.Values w.held w.raw ∷ ps)) (Ok (parts.Values w.held w.raw ∷ ps)) _ _
@@ -122,7 +122,7 @@ sequence_finish s outer w ps head laid directives ends items small =
             (λ h. let s = flat_join w.held (one (listed w.values)) h.1 in (record { values = alone (listed w.values) s.1; held = s.0; directives = no_data w.directives directives; endings = no_endings w.endings ends; items = no_items w.items items }, h.0))
             (node_follows (FlatParts ps) kinds.SequenceExpression (join w.held (one (listed w.values))))))
 
-instead_finish : (s : Symbol) (outer : List Symbol) (w : Work) (ps : List Part) → is_plain s ≡ false → is_accessor s ≡ true → Head s → Laid outer ps → Spare w → w.endings ≡ [] → Finishes s outer (FlatGot (w, ps)) (instead w ps) (instead w ps)
+pub instead_finish : (s : Symbol) (outer : List Symbol) (w : Work) (ps : List Part) → is_plain s ≡ false → is_accessor s ≡ true → Head s → Laid outer ps → Spare w → w.endings ≡ [] → Finishes s outer (FlatGot (w, ps)) (instead w ps) (instead w ps)
 unfolding instead
 instead_finish s outer w ps np accessor head laid spare ends =
     weaker (FlatParts ps × FlatIn w.values) (FlatGot (w, ps)) FlatParts (Laid (s ∷ outer)) _ _ (λ h. (with_spare w spare h.1 (no_endings w.endings ends), h.0))
@@ -134,7 +134,7 @@ small_tree : (raw : Option NameId) (ds : Data) (t : Tree) → ds ≡ one (child 
 small_tree None ds t e h = tt
 small_tree (Some n) ds t e h = let a : depth_in (one (child t)) ≤ 2 = subst (λ ds. depth_in ds ≤ 2) e h in omega (arith, a)
 
-item_finish : (s : Symbol) (outer : List Symbol) (w : Work) (ps : List Part) → Head s → Laid outer ps → w.held ≡ none → w.directives ≡ none → w.endings ≡ [] → SmallIf true w.raw w.values → RawItems w.items → Finishes s outer (FlatGot (w, ps)) (add_item w ps) (add_item w ps)
+pub item_finish : (s : Symbol) (outer : List Symbol) (w : Work) (ps : List Part) → Head s → Laid outer ps → w.held ≡ none → w.directives ≡ none → w.endings ≡ [] → SmallIf true w.raw w.values → RawItems w.items → Finishes s outer (FlatGot (w, ps)) (add_item w ps) (add_item w ps)
 unfolding add_item
 item_finish s outer w ps head laid held directives ends small raw =
     weaker ((FlatParts ps × FlatItems w.items) × FlatIn w.values) (FlatGot (w, ps)) FlatParts (Laid (s ∷ outer)) _ _ (λ h. (record { values = h.1; held = no_data w.held held; directives = no_data w.directives directives; endings = no_endings w.endings ends; items = h.0.1 }, h.0.0))
@@ -159,7 +159,7 @@ switch_follows C held before (more d behind) =
     (weaker (C × FlatIn (join held (more (listed before) (two d (listed behind))))) (C × FlatIn held × FlatIn before × FlatIn (more d behind)) (λ u. C × Flat u) (λ u. branch kinds.SwitchStatementWithDefault (join held (more (listed before) (two d (listed behind)))) ≡ u) (limited kinds.SwitchStatementWithDefault (join held (more (listed before) (two d (listed behind))))) (unlimited kinds.SwitchStatementWithDefault (join held (more (listed before) (two d (listed behind)))))
         (λ h. let s = flat_join held (more (listed before) (two d (listed behind))) h.1 in let a : depth_in (more (listed before) (two d (listed behind))) ≤ 512 = s.1 in (h.0, s.0, omega (arith, a), omega (arith, a))) (node_follows C kinds.SwitchStatementWithDefault (join held (more (listed before) (two d (listed behind))))))
 
-switch_finish : (s : Symbol) (outer : List Symbol) (w : Work) (ps : List Part) → Head s → Laid outer ps → w.directives ≡ none → w.endings ≡ [] → w.items ≡ [] → Finishes s outer (FlatGot (w, ps)) (switch limited w ps) (switch unlimited w ps)
+pub switch_finish : (s : Symbol) (outer : List Symbol) (w : Work) (ps : List Part) → Head s → Laid outer ps → w.directives ≡ none → w.endings ≡ [] → w.items ≡ [] → Finishes s outer (FlatGot (w, ps)) (switch limited w ps) (switch unlimited w ps)
 unfolding switch
 switch_finish s outer w ps head laid directives ends items =
     tree_end s outer ps (FlatGot (w, ps)) (λ u. Unit {0}) (switch_of limited w.held (before_default w.values) (from_default w.values)) (switch_of unlimited w.held (before_default w.values) (from_default w.values)) head laid
@@ -175,7 +175,7 @@ last_follows : (C : Type 0) (ds : Data) → Follows (C × FlatIn ds) (λ l. C ×
 last_follows C none = failed _ _ _
 last_follows C (more d ds) = done _ _ _ (last_behind d ds) (λ h. let a : depth_in (last_behind d ds).0 ≤ 512 = h.1 in let b : depth_at (last_behind d ds).1 ≤ 512 = h.2 in (h.0, omega (arith, a, b, behind_depth d ds))) tt
 
-parameters_finish : (s : Symbol) (outer : List Symbol) (w : Work) (ps : List Part) → Head s → Laid outer ps → Spare w → w.endings ≡ [] → Finishes s outer (FlatGot (w, ps)) (parameters limited w ps) (parameters unlimited w ps)
+pub parameters_finish : (s : Symbol) (outer : List Symbol) (w : Work) (ps : List Part) → Head s → Laid outer ps → Spare w → w.endings ≡ [] → Finishes s outer (FlatGot (w, ps)) (parameters limited w ps) (parameters unlimited w ps)
 unfolding parameters
 parameters_finish s outer w ps head laid spare ends =
     weaker (FlatParts ps × FlatIn w.values) (FlatGot (w, ps)) FlatParts (Laid (s ∷ outer)) _ _ (λ h. (with_spare w spare h.1 (no_endings w.endings ends), h.0))

@@ -1,5 +1,5 @@
 -- How the parts on the stack are laid out, and what a row's work may hold.
-use Rattle.std.proofs.Common.{◌≡◌, ◌≤◌, ℕ, cond, Bool, true, false, not, ◌&&◌, List, [], ◌∷◌, Option, Some, None, refl}
+use Rattle.std.proofs.Common.{◌≡◌, ◌≤◌, ℕ, cond, Bool, true, false, not, ◌&&◌, ◌||◌, List, [], ◌∷◌, Option, Some, None, refl}
 use Rattle.bast_base.specs.declared.errors.NameId.{NameId}
 use Rattle.bast_schema.specs.Tree.{Tree, Data, none, depth, depth_in}
 use Rattle.js_grammar.specs.declared.symbols.Symbol.{Symbol}
@@ -276,3 +276,30 @@ may_finish finishes.Items b = not b.held && not b.directives && not b.endings
 may_finish finishes.NoItems b = not b.values && not b.held && not b.directives && not b.endings && not b.items
 may_finish finishes.Switch b = not b.directives && not b.endings && not b.items
 may_finish finishes.Parameters b = not b.held && not b.directives && not b.endings && not b.items
+
+-- what a row's own part may be for its symbol
+abbrev pub may_head : Symbol → Finish → Flow → Bool
+may_head s finishes.Statement b = is_statement s
+may_head s (finishes.Ends k) b = not (is_plain s) || b.plain
+may_head s finishes.Endings b = not (is_plain s) || b.plain
+may_head s (finishes.EndsParameters k) b = not (is_plain s)
+may_head s (finishes.EndsLabel k) b = not (is_plain s)
+may_head s finishes.Fills b = not (is_plain s)
+may_head s (finishes.Binds how) b = not (is_plain s)
+may_head s finishes.Declares b = not (is_plain s)
+may_head s finishes.ArrowBody b = not (is_plain s)
+may_head s finishes.Tries b = not (is_plain s)
+may_head s finishes.Instead b = not (is_plain s) && is_accessor s
+may_head s _ b = true
+
+-- the part of a symbol may stand for another one
+abbrev pub may_stand : Symbol → Symbol → Bool
+may_stand s x = (not (is_statement x) || is_statement s) && (not (is_plain s) && (not (is_accessor x) || is_accessor s))
+
+-- what is left of a row's symbols: nothing, or the one whose part is the row's own
+abbrev pub may_leave : Symbol → Finish → List Symbol → Bool
+may_leave s finishes.Same [] = false
+may_leave s finishes.Same (x ∷ []) = may_stand s x
+may_leave s finishes.Same (x ∷ y ∷ xs) = false
+may_leave s _ [] = true
+may_leave s _ (x ∷ xs) = false

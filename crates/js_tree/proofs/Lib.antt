@@ -1,5 +1,6 @@
 pub mod Broken
 pub mod Finishing
+pub mod FollowAll
 pub mod FollowFinishes
 pub mod FollowRows
 pub mod FollowSteps

@@ -65,7 +65,7 @@ any_name : (P : Datum → Type 0) → ((n : ℕ) → P (name n)) → (o : Option
 any_name P any None = tt
 any_name P any (Some n) = any n.0
 
-no_names_in : (P : Datum → Type 0) → ((n : ℕ) → P (name n)) → (ls : List Leaf) → HoldsLeaves P ls
+pub no_names_in : (P : Datum → Type 0) → ((n : ℕ) → P (name n)) → (ls : List Leaf) → HoldsLeaves P ls
 no_names_in P any [] = tt
 no_names_in P any (l ∷ ls) = ((any_name P any l.text, any_name P any l.raw), no_names_in P any ls)
 
