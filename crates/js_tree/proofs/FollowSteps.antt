@@ -60,10 +60,10 @@ values_follows C x xs (parts.Items is ∷ ps) laid = failed _ _ _
 abbrev FlatTaken : Type 0 → List Ending × List Part → Type 0
 FlatTaken C e = C × FlatEndings e.0 × FlatParts e.1
 
-abbrev KnownEndings : Bool → Bool → List Symbol → List Ending × List Part → Type 0
+abbrev pub KnownEndings : Bool → Bool → List Symbol → List Ending × List Part → Type 0
 KnownEndings p a xs e = PlainEnds p e.0 × Arounds a e.0 × Laid xs e.1
 
-endings_follows : (C : Type 0) (x : Symbol) (xs : List Symbol) (ps : List Part) → Laid (x ∷ xs) ps → Follows (C × FlatParts ps) (FlatTaken C) (KnownEndings (is_plain x) (is_accessor x) xs) (taken_endings ps) (taken_endings ps)
+pub endings_follows : (C : Type 0) (x : Symbol) (xs : List Symbol) (ps : List Part) → Laid (x ∷ xs) ps → Follows (C × FlatParts ps) (FlatTaken C) (KnownEndings (is_plain x) (is_accessor x) xs) (taken_endings ps) (taken_endings ps)
 endings_follows C x xs [] laid = failed _ _ _
 endings_follows C x xs (parts.Token l ∷ ps) laid = failed _ _ _
 endings_follows C x xs (parts.Counted ∷ ps) laid = failed _ _ _
