@@ -18,6 +18,7 @@ use Rattle.js_tree.specs.Image.{row_part}
 use Rattle.js_tree.specs.Nodes.{one, limited, unlimited}
 use Rattle.js_tree.specs.Parts.{taken_leaf, taken_values, taken_endings, taken_items}
 use Rattle.js_tree.specs.Recipes.{recipe}
+use Rattle.js_tree.specs.Leads.{is_leaf}
 use Rattle.js_tree.specs.Results.{◌>>=◌, there, broken}
 use Rattle.js_tree.specs.Steps.{gathered, no_work, step_on, operand, tail, rest, hold, put, quoted, text, with_value}
 use Rattle.js_tree.specs.declared.fault.Fault.{Fault}
@@ -38,7 +39,7 @@ use Rattle.js_tree.proofs.Following.{Follows, done, failed, known, weaker, andth
 use Rattle.js_tree.proofs.FollowSteps.{KnownEndings, leaf_follows, endings_follows, Stepped, no_items, no_data, all_follow}
 use Rattle.js_tree.proofs.FollowFinishes.{IsIdent, ident_kept, Head, Finishes, Spare, with_spare, no_endings, head_values, head_items, head_endings, folds_finish, statement_finish, property_finish, fills_finish, first_of_all}
 use Rattle.js_tree.proofs.FollowRows.{binds_finish, declares_finish, arrow_finish, ends_finish, tries_finish, sequence_finish, instead_finish, item_finish, switch_finish, parameters_finish}
-use Rattle.js_tree.proofs.Laying.{AllAround, FirstInstead, AllPlain, Arounds, PlainEnds, LeafIf, PlainIf, AroundIf, RawPart, is_statement, is_accessor, SmallIf, RawItems, is_leaf, is_plain, Suits, Laid, Flow, Empty, no_flow, may_finish, may_head, may_stand, may_leave, may_all, left_by_all, after_all}
+use Rattle.js_tree.proofs.Laying.{AllAround, FirstInstead, AllPlain, Arounds, PlainEnds, LeafIf, PlainIf, AroundIf, RawPart, is_statement, is_accessor, SmallIf, RawItems, is_plain, Suits, Laid, Flow, Empty, no_flow, may_finish, may_head, may_stand, may_leave, may_all, left_by_all, after_all}
 
 nots3 : (a b c : Bool) → (not a && not b && not c) ≡ true → (a ≡ false) × (b ≡ false) × (c ≡ false)
 nots3 true b c e = absurd cc
@@ -99,7 +100,7 @@ not_and true q e = absurd cc
 not_and false q e = (refl, e)
 
 -- what is known of a work beside which of its fields are empty
-abbrev RawFact : Finish → Work → Type 0
+abbrev pub RawFact : Finish → Work → Type 0
 RawFact finishes.Folds w = SmallIf false w.raw w.values
 RawFact finishes.Statement w = SmallIf false w.raw w.values
 RawFact finishes.Sequence w = SmallIf false w.raw w.held
@@ -162,7 +163,7 @@ spare_of b w e held directives items = record { held = e.held held; directives =
 nothing_flat : (b : Flow) (w : Work) → Empty b w → b.values ≡ false → b.held ≡ false → b.directives ≡ false → b.endings ≡ false → b.items ≡ false → FlatWork w
 nothing_flat b w e values held directives ends items = with_spare w (spare_of b w e held directives items) (no_data w.values (e.values values)) (no_endings w.endings (e.endings ends))
 
-finish_follows : (f : Finish) (s : Symbol) (b : Flow) (left outer : List Symbol) (w : Work) (ps : List Part) → may_finish f b ≡ true → may_head s f b ≡ true → may_leave s f left ≡ true → Head s → Empty b w → HoldsWork IsIdent w → RawFact f w
+pub finish_follows : (f : Finish) (s : Symbol) (b : Flow) (left outer : List Symbol) (w : Work) (ps : List Part) → may_finish f b ≡ true → may_head s f b ≡ true → may_leave s f left ≡ true → Head s → Empty b w → HoldsWork IsIdent w → RawFact f w
     → Laid (left ++ outer) ps → Finishes s outer (FlatGot (w, ps)) (finish_on limited f w ps) (finish_on unlimited f w ps)
 finish_follows finishes.Same s b [] outer w ps may top leave head e idents raw laid = absurd cc
 finish_follows finishes.Same s b (x ∷ []) outer w ps may top leave head e idents raw laid =
@@ -360,7 +361,7 @@ free_fact _ w e raw = tt
 abbrev is_plain_row : RowId → Bool
 is_plain_row r = is_needless (recipe r).1 || (is_free (recipe r).1 && not (after_all (recipe r).0 (row_symbols r) no_flow).raw)
 
-abbrev RawRow : RowId → Work × List Part → Type 0
+abbrev pub RawRow : RowId → Work × List Part → Type 0
 RawRow r g = RawFact (recipe r).1 g.0
 
 plain_fact : (a b c : Bool) (f : Finish) (w : Work) → (a || (b && not c)) ≡ true → is_needless f ≡ a → is_free f ≡ b → (c ≡ false → w.raw ≡ None) → RawFact f w
@@ -369,7 +370,7 @@ plain_fact false true false f w e n r raw = free_fact f w r (raw refl)
 plain_fact false true true f w e n r raw = absurd cc
 plain_fact false false c f w e n r raw = absurd cc
 
-nothing_empty : Empty no_flow no_work
+pub nothing_empty : Empty no_flow no_work
 nothing_empty = record { values = λ t. refl; held = λ t. refl; directives = λ t. refl; endings = λ t. refl; items = λ t. refl; raw = λ t. refl; plain = λ t. tt; around = λ t. tt }
 
 plain_row : (r : RowId) (outer : List Symbol) (ps : List Part) → may_all (recipe r).0 (row_symbols r) no_flow ≡ true → is_plain_row r ≡ true → Laid (row_symbols r ++ outer) ps → Holds (RawRow r) (gathered unlimited (recipe r).0 no_work ps)
@@ -378,7 +379,7 @@ plain_row r outer ps may e laid =
     in mapped (Stepped (after_all (recipe r).0 (row_symbols r) no_flow) (left_by_all (recipe r).0 (row_symbols r) ++ outer)) (RawRow r) (gathered unlimited (recipe r).0 no_work ps)
         (λ g k. plain_fact (is_needless (recipe r).1) (is_free (recipe r).1) (after_all (recipe r).0 (row_symbols r) no_flow).raw (recipe r).1 g.0 e refl refl k.0.raw) h.fact
 
-raw_row : (r : RowId) (outer : List Symbol) (ps : List Part) → may_all (recipe r).0 (row_symbols r) no_flow ≡ true → Laid (row_symbols r ++ outer) ps → Holds (RawRow r) (gathered unlimited (recipe r).0 no_work ps)
+pub raw_row : (r : RowId) (outer : List Symbol) (ps : List Part) → may_all (recipe r).0 (row_symbols r) no_flow ≡ true → Laid (row_symbols r ++ outer) ps → Holds (RawRow r) (gathered unlimited (recipe r).0 no_work ps)
 raw_row rows.Items outer ps may laid = operand_rest outer ps laid
 raw_row rows.StatExpr outer ps may laid = operand_tail _ _ outer ps refl laid
 raw_row (rows.Expr m) outer ps may laid = operand_put _ _ outer ps refl laid

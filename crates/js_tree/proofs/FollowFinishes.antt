@@ -12,6 +12,7 @@ use Rattle.js_grammar.specs.declared.symbols.Symbol.{Symbol}
 use Rattle.js_tree.specs.Finishes.{Finished, finish_on, folds, statement, shorthand, property, filled, fills, for_kind, declaration, left_of, bound, binds, declaring, declares, arrow_body, tries, sequence, instead, add_item, is_default, before_default, from_default, switch_of, switch, parameters}
 use Rattle.js_tree.specs.Nodes.{Maker, one, two, identifier, first_name, limited, unlimited, one_parameter, parameters_or, parameters_of, no_names, no_parameter_names, contents_of, stands, ended, folded}
 use Rattle.js_tree.specs.Parts.{first_value, one_value, node_in, one_node, last_behind, last_value, one_ending}
+use Rattle.js_tree.specs.Leads.{is_leaf}
 use Rattle.js_tree.specs.Results.{◌>>=◌, there, broken}
 use Rattle.js_tree.specs.declared.fault.Fault.{Fault}
 use Rattle.js_tree.specs.declared.parts.Part.{Part}
@@ -30,7 +31,7 @@ use Rattle.js_tree.proofs.Holding.{Holds, each_result, Each, is_made, Kept, Hold
 use Rattle.js_tree.proofs.Finishing.{ended_held}
 use Rattle.js_tree.proofs.Following.{Follows, done, failed, alike, known, weaker, andthen, Flat, FlatIn, FlatForm, FlatEnding, FlatEndings, FlatItems, FlatPart, FlatParts, FlatWork, FlatGot, flat_join, node_follows}
 use Rattle.js_tree.proofs.FollowSteps.{keep, first_follows, one_follows, no_items, no_data, alone, made_follows}
-use Rattle.js_tree.proofs.Laying.{IsAround, AllAround, FirstInstead, Arounds, AroundIf, is_accessor, PlainForm, PlainEnding, AllPlain, PlainEnds, is_statement, SmallIf, SmallTree, RawItems, RawPart, LeafIf, PlainIf, is_leaf, is_plain, Suits, Laid, Flow, Empty, may_finish}
+use Rattle.js_tree.proofs.Laying.{IsAround, AllAround, FirstInstead, Arounds, AroundIf, is_accessor, PlainForm, PlainEnding, AllPlain, PlainEnds, is_statement, SmallIf, SmallTree, RawItems, RawPart, LeafIf, PlainIf, is_plain, Suits, Laid, Flow, Empty, may_finish}
 
 -- an identifier is not deep
 abbrev pub IsIdent : Datum → Type 0

@@ -9,6 +9,7 @@ use Rattle.js_grammar.specs.declared.symbols.Symbol.{Symbol}
 use Rattle.js_tree.specs.Finishes.{finish_on, filled, for_kind, declaration, left_of, bound, binds, declaring, declares, arrow_body, try_kind, tries, sequence, instead, add_item, is_default, before_default, from_default, switch_of, switch, parameters}
 use Rattle.js_tree.specs.Nodes.{one, two, limited, unlimited}
 use Rattle.js_tree.specs.Parts.{first_value, one_value, one_node, last_behind, last_value, one_ending}
+use Rattle.js_tree.specs.Leads.{is_leaf}
 use Rattle.js_tree.specs.Results.{◌>>=◌, broken}
 use Rattle.js_tree.specs.declared.fault.Fault.{Fault}
 use Rattle.js_tree.specs.declared.parts.Part.{Part}
@@ -27,7 +28,7 @@ use Rattle.js_tree.proofs.Holding.{Holds, HoldsWork}
 use Rattle.js_tree.proofs.Following.{Follows, done, failed, known, weaker, andthen, Flat, FlatIn, FlatForm, FlatEnding, FlatEndings, FlatItems, FlatParts, FlatWork, FlatGot, flat_join, node_follows}
 use Rattle.js_tree.proofs.FollowSteps.{first_follows, one_follows, no_items, no_data, alone}
 use Rattle.js_tree.proofs.FollowFinishes.{IsIdent, Head, Finishes, Spare, with_spare, no_endings, head_values, head_items, head_endings, small_up, tree_end, endings_end, either_follows, one_node_follows, one_ending_follows, plain_flat, not_plain, folds_finish, statement_finish, property_finish, fills_finish, first_of_all}
-use Rattle.js_tree.proofs.Laying.{IsAround, AllAround, FirstInstead, PlainForm, PlainEnding, AllPlain, is_statement, is_accessor, SmallIf, SmallTree, RawItems, RawPart, LeafIf, PlainIf, AroundIf, Arounds, PlainEnds, is_leaf, is_plain, Suits, Laid, Flow, Empty, may_finish}
+use Rattle.js_tree.proofs.Laying.{IsAround, AllAround, FirstInstead, PlainForm, PlainEnding, AllPlain, is_statement, is_accessor, SmallIf, SmallTree, RawItems, RawPart, LeafIf, PlainIf, AroundIf, Arounds, PlainEnds, is_plain, Suits, Laid, Flow, Empty, may_finish}
 
 declaration_follows : (C : Type 0) (how : Declared) (ds : Data) → Follows (C × FlatIn ds) (λ u. C × Flat u) (λ u. Unit {0}) (declaration limited how ds) (declaration unlimited how ds)
 declaration_follows C declared.Var ds =

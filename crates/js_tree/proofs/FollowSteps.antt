@@ -10,6 +10,7 @@ use Rattle.js_grammar.specs.declared.symbols.Symbol.{Symbol}
 use Rattle.js_tree.specs.Nodes.{one, two, no_names, no_parameter_names, limited, unlimited, statements, behind_directive, behind_directives, directives, directives_from}
 use Rattle.js_tree.specs.Operators.{operator}
 use Rattle.js_tree.specs.Parts.{first_value, one_value, without_top, taken_leaf, taken_values, taken_endings, taken_items}
+use Rattle.js_tree.specs.Leads.{is_leaf}
 use Rattle.js_tree.specs.Results.{◌>>=◌, there, broken}
 use Rattle.js_tree.specs.Steps.{Gathered, gather, gathered, with_value, with_node, step_on, skip, put, operand, wrap, text, number, whole_number, named, quoted, with_operator, parameter_of, parameter, template_part, tail, rest, with_statements, body, hold, resume, closed}
 use Rattle.js_tree.specs.declared.fault.Fault.{Fault}
@@ -23,7 +24,7 @@ use Rattle.js_tree.specs.declared.recipe.Step.TheVariants as steps
 use Rattle.js_tree.specs.declared.work.Work.{Work}
 use Rattle.js_tree.proofs.Holding.{Holds, each_result}
 use Rattle.js_tree.proofs.Following.{mapped, Follows, done, failed, alike, known, weaker, andthen, Flat, FlatIn, FlatEndings, FlatItems, FlatPart, FlatParts, FlatWork, FlatGot, flat_join, flat_endings, node_follows}
-use Rattle.js_tree.proofs.Laying.{AllPlain, AllAround, Arounds, is_accessor, PlainEnds, SmallTree, RawItems, LeafIf, PlainIf, is_leaf, is_plain, Suits, Laid, Flow, Empty, adds, with_raw, with_tail, with_rest, with_body, holds, resumes, takes_one, takes_two, behind, may_step, left_by, after, may_all, left_by_all, after_all}
+use Rattle.js_tree.proofs.Laying.{AllPlain, AllAround, Arounds, is_accessor, PlainEnds, SmallTree, RawItems, LeafIf, PlainIf, is_plain, Suits, Laid, Flow, Empty, adds, with_raw, with_tail, with_rest, with_body, holds, resumes, takes_one, takes_two, behind, may_step, left_by, after, may_all, left_by_all, after_all}
 
 abbrev pub Stepped : Flow → List Symbol → Work × List Part → Type 0
 Stepped b xs r = Empty b r.0 × Laid xs r.1

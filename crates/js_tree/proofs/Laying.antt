@@ -4,6 +4,7 @@ use Rattle.bast_base.specs.declared.errors.NameId.{NameId}
 use Rattle.bast_schema.specs.Tree.{Tree, Data, none, depth, depth_in}
 use Rattle.js_grammar.specs.declared.symbols.Symbol.{Symbol}
 use Rattle.js_grammar.specs.declared.symbols.Symbol.TheVariants as symbols
+use Rattle.js_tree.specs.Leads.{is_leaf}
 use Rattle.js_tree.specs.declared.parts.Part.{Part}
 use Rattle.js_tree.specs.declared.parts.Part.TheVariants as parts
 use Rattle.js_tree.specs.declared.parts.Form.{Form}
@@ -102,12 +103,6 @@ AroundIf b (parts.Token l) = Unit {0}
 AroundIf b parts.Counted = Unit {0}
 AroundIf b (parts.Values ds raw) = Unit {0}
 AroundIf b (parts.Items is) = Unit {0}
-
--- a token or a semicolon
-abbrev pub is_leaf : Symbol → Bool
-is_leaf symbols.Semi = true
-is_leaf (symbols.Take t) = true
-is_leaf _ = false
 
 -- what the head of a `for` without a declaration is put into
 abbrev pub is_plain : Symbol → Bool

@@ -10,6 +10,7 @@ pub mod HeftFinishes
 pub mod Hefts
 pub mod Holding
 pub mod Laying
+pub mod Leading
 pub mod Payments
 pub mod Runs
 pub mod Scripts

@@ -1,6 +1,7 @@
 pub mod Eager
 pub mod Finishes
 pub mod Image
+pub mod Leads
 pub mod Names
 pub mod Nodes
 pub mod Operators
