@@ -2,6 +2,7 @@ pub mod Broken
 pub mod Finishing
 pub mod FollowAll
 pub mod FollowFinishes
+pub mod FollowImage
 pub mod FollowRows
 pub mod FollowSteps
 pub mod Following
