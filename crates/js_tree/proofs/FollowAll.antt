@@ -1,10 +1,8 @@
 -- Each row that is sound follows what it makes without a limit.
-use Rattle.std.proofs.Common.{◌≡◌, ◌≤◌, ◌<◌, ◌+◌, ◌==◌, ℕ, zero, suc, max, cond, Bool, true, false, not, ◌&&◌, ◌||◌, length, List, [], ◌∷◌, ◌++◌, Option, Some, None, Result, Ok, Err, refl, sym, ap, ◌∙◌, subst, arith}
+use Rattle.std.proofs.Common.{◌≡◌, ◌≤◌, ℕ, Bool, true, false, not, ◌&&◌, ◌||◌, List, [], ◌∷◌, ◌++◌, Option, Some, None, Result, Ok, refl, sym, subst, arith}
 use Rattle.bast_base.specs.declared.errors.NameId.{NameId}
 use Rattle.bast_schema.specs.declared.kind.Kind.TheVariants as kinds
-use Rattle.bast_schema.specs.Counts.{join}
-use Rattle.bast_schema.specs.Kinds.{counted}
-use Rattle.bast_schema.specs.Tree.{Tree, branch, Datum, child, name, Data, none, more, depth, depth_in}
+use Rattle.bast_schema.specs.Tree.{branch, child, name, Data, depth_in}
 use Rattle.js_grammar.specs.Rows.{row_symbols, next_level}
 use Rattle.js_grammar.specs.declared.symbols.Level.{Level}
 use Rattle.js_grammar.specs.declared.symbols.Level.TheVariants as levels
@@ -14,32 +12,26 @@ use Rattle.js_grammar.specs.declared.symbols.RowId.TheVariants as rows
 use Rattle.js_grammar.specs.declared.symbols.Symbol.{Symbol}
 use Rattle.js_grammar.specs.declared.symbols.Symbol.TheVariants as symbols
 use Rattle.js_tree.specs.Finishes.{finish_on}
-use Rattle.js_tree.specs.Image.{row_part}
 use Rattle.js_tree.specs.Nodes.{one, limited, unlimited}
-use Rattle.js_tree.specs.Parts.{taken_leaf, taken_values, taken_endings, taken_items}
+use Rattle.js_tree.specs.Parts.{taken_leaf, taken_endings}
 use Rattle.js_tree.specs.Recipes.{recipe}
-use Rattle.js_tree.specs.Leads.{is_leaf}
-use Rattle.js_tree.specs.Results.{◌>>=◌, there, broken}
-use Rattle.js_tree.specs.Steps.{gathered, no_work, step_on, operand, tail, rest, hold, put, quoted, text, with_value}
+use Rattle.js_tree.specs.Results.{there}
+use Rattle.js_tree.specs.Steps.{gathered, no_work, operand, tail, rest, hold, put, quoted, text, with_value}
 use Rattle.js_tree.specs.declared.fault.Fault.{Fault}
-use Rattle.js_tree.specs.declared.leaf.Leaf.{Leaf}
 use Rattle.js_tree.specs.declared.parts.Part.{Part}
 use Rattle.js_tree.specs.declared.parts.Part.TheVariants as parts
 use Rattle.js_tree.specs.declared.parts.Form.TheVariants as forms
 use Rattle.js_tree.specs.declared.parts.Ending.{Ending}
 use Rattle.js_tree.specs.declared.recipe.Finish.{Finish}
 use Rattle.js_tree.specs.declared.recipe.Finish.TheVariants as finishes
-use Rattle.js_tree.specs.declared.recipe.Step.{Step}
 use Rattle.js_tree.specs.declared.recipe.Step.TheVariants as steps
 use Rattle.js_tree.specs.declared.work.Work.{Work}
-use Rattle.js_tree.proofs.Holding.{Holds, then, each_result, HoldsParts, HoldsWork}
-use Rattle.js_tree.proofs.Gathering.{Got, all_got}
-use Rattle.js_tree.proofs.Finishing.{nothing, row_makes}
-use Rattle.js_tree.proofs.Following.{Follows, done, failed, known, weaker, andthen, FlatIn, FlatParts, FlatWork, FlatGot, mapped}
-use Rattle.js_tree.proofs.FollowSteps.{KnownEndings, leaf_follows, endings_follows, Stepped, no_items, no_data, all_follow}
-use Rattle.js_tree.proofs.FollowFinishes.{IsIdent, ident_kept, Head, Finishes, Spare, with_spare, no_endings, head_values, head_items, head_endings, folds_finish, statement_finish, property_finish, fills_finish, first_of_all}
+use Rattle.js_tree.proofs.Holding.{Holds, then, each_result, HoldsWork}
+use Rattle.js_tree.proofs.Following.{done, FlatWork, FlatGot, mapped}
+use Rattle.js_tree.proofs.FollowSteps.{KnownEndings, leaf_follows, endings_follows, Stepped, no_data, all_follow}
+use Rattle.js_tree.proofs.FollowFinishes.{IsIdent, Head, Finishes, Spare, with_spare, no_endings, head_values, head_items, head_endings, folds_finish, statement_finish, property_finish, fills_finish, first_of_all}
 use Rattle.js_tree.proofs.FollowRows.{binds_finish, declares_finish, arrow_finish, ends_finish, tries_finish, sequence_finish, instead_finish, item_finish, switch_finish, parameters_finish}
-use Rattle.js_tree.proofs.Laying.{AllAround, FirstInstead, AllPlain, Arounds, PlainEnds, LeafIf, PlainIf, AroundIf, RawPart, is_statement, is_accessor, SmallIf, RawItems, is_plain, Suits, Laid, Flow, Empty, no_flow, may_finish, may_head, may_stand, may_leave, may_all, left_by_all, after_all}
+use Rattle.js_tree.proofs.Laying.{FirstInstead, Arounds, LeafIf, PlainIf, AroundIf, RawPart, is_statement, is_accessor, SmallIf, RawItems, is_plain, Suits, Laid, Flow, Empty, no_flow, may_finish, may_head, may_stand, may_leave, may_all, left_by_all, after_all}
 
 nots3 : (a b c : Bool) → (not a && not b && not c) ≡ true → (a ≡ false) × (b ≡ false) × (c ≡ false)
 nots3 true b c e = absurd cc
@@ -377,7 +369,7 @@ plain_row : (r : RowId) (outer : List Symbol) (ps : List Part) → may_all (reci
 plain_row r outer ps may e laid =
     let h = all_follow (recipe r).0 no_flow no_work (row_symbols r) outer ps may nothing_empty laid
     in mapped (Stepped (after_all (recipe r).0 (row_symbols r) no_flow) (left_by_all (recipe r).0 (row_symbols r) ++ outer)) (RawRow r) (gathered unlimited (recipe r).0 no_work ps)
-        (λ g k. plain_fact (is_needless (recipe r).1) (is_free (recipe r).1) (after_all (recipe r).0 (row_symbols r) no_flow).raw (recipe r).1 g.0 e refl refl k.0.raw) h.fact
+    (λ g k. plain_fact (is_needless (recipe r).1) (is_free (recipe r).1) (after_all (recipe r).0 (row_symbols r) no_flow).raw (recipe r).1 g.0 e refl refl k.0.raw) h.fact
 
 pub raw_row : (r : RowId) (outer : List Symbol) (ps : List Part) → may_all (recipe r).0 (row_symbols r) no_flow ≡ true → Laid (row_symbols r ++ outer) ps → Holds (RawRow r) (gathered unlimited (recipe r).0 no_work ps)
 raw_row rows.Items outer ps may laid = operand_rest outer ps laid

@@ -1,5 +1,5 @@
 -- What a row makes with the limit of what was gathered follows what it makes without it.
-use Rattle.std.proofs.Common.{◌≡◌, ◌≤◌, ◌<◌, ◌+◌, ◌==◌, ℕ, max, cond, Bool, true, false, not, ◌&&◌, ◌||◌, length, List, [], ◌∷◌, ◌++◌, Option, Some, None, Result, Ok, Err, refl, sym, ap, ◌∙◌, subst, arith}
+use Rattle.std.proofs.Common.{◌≡◌, ◌≤◌, ◌==◌, ℕ, cond, Bool, true, false, not, ◌||◌, length, List, [], ◌∷◌, Option, Some, None, Result, Ok, refl, sym, subst, arith}
 use Rattle.std.proofs.lemmas.Bool.{eqb-true}
 use Rattle.bast_base.specs.declared.errors.NameId.{NameId}
 use Rattle.bast_schema.specs.declared.kind.Kind.{Kind}
@@ -7,11 +7,11 @@ use Rattle.bast_schema.specs.declared.kind.Kind.TheVariants as kinds
 use Rattle.bast_schema.specs.Counts.{join}
 use Rattle.bast_schema.specs.Fields.{has_lazy}
 use Rattle.bast_schema.specs.Kinds.{same_kind, counted}
-use Rattle.bast_schema.specs.Tree.{Tree, branch, Datum, child, absent, listed, flag, index, whole, name, no_name, choice, window, Data, none, more, is_none, depth, depth_at, depth_in}
+use Rattle.bast_schema.specs.Tree.{Tree, branch, Datum, child, absent, listed, flag, index, whole, name, no_name, choice, window, Data, none, more, depth, depth_at, depth_in}
 use Rattle.js_grammar.specs.declared.symbols.Symbol.{Symbol}
-use Rattle.js_tree.specs.Finishes.{Finished, finish_on, folds, statement, shorthand, property, filled, fills, for_kind, declaration, left_of, bound, binds, declaring, declares, arrow_body, tries, sequence, instead, add_item, is_default, before_default, from_default, switch_of, switch, parameters}
-use Rattle.js_tree.specs.Nodes.{Maker, one, two, identifier, first_name, limited, unlimited, one_parameter, parameters_or, parameters_of, no_names, no_parameter_names, contents_of, stands, ended, folded}
-use Rattle.js_tree.specs.Parts.{first_value, one_value, node_in, one_node, last_behind, last_value, one_ending}
+use Rattle.js_tree.specs.Finishes.{folds, statement, shorthand, property, filled, fills}
+use Rattle.js_tree.specs.Nodes.{one, two, identifier, first_name, limited, unlimited, one_parameter, parameters_or, parameters_of, no_names, no_parameter_names, contents_of, stands, ended, folded}
+use Rattle.js_tree.specs.Parts.{one_value, node_in, one_node, one_ending}
 use Rattle.js_tree.specs.Leads.{is_leaf}
 use Rattle.js_tree.specs.Results.{◌>>=◌, there, broken}
 use Rattle.js_tree.specs.declared.fault.Fault.{Fault}
@@ -22,16 +22,12 @@ use Rattle.js_tree.specs.declared.parts.Form.TheVariants as forms
 use Rattle.js_tree.specs.declared.parts.Ending.{Ending}
 use Rattle.js_tree.specs.declared.parts.Ending.TheVariants as endings
 use Rattle.js_tree.specs.declared.parts.Item.{Item}
-use Rattle.js_tree.specs.declared.recipe.Declared.{Declared}
-use Rattle.js_tree.specs.declared.recipe.Declared.TheVariants as declared
-use Rattle.js_tree.specs.declared.recipe.Finish.{Finish}
-use Rattle.js_tree.specs.declared.recipe.Finish.TheVariants as finishes
 use Rattle.js_tree.specs.declared.work.Work.{Work}
-use Rattle.js_tree.proofs.Holding.{Holds, each_result, Each, is_made, Kept, HoldsForm, HoldsEnding, HoldsEndings, HoldsWork}
+use Rattle.js_tree.proofs.Holding.{Each, is_made, Kept, HoldsEndings, HoldsWork}
 use Rattle.js_tree.proofs.Finishing.{ended_held}
-use Rattle.js_tree.proofs.Following.{Follows, done, failed, alike, known, weaker, andthen, Flat, FlatIn, FlatForm, FlatEnding, FlatEndings, FlatItems, FlatPart, FlatParts, FlatWork, FlatGot, flat_join, node_follows}
-use Rattle.js_tree.proofs.FollowSteps.{keep, first_follows, one_follows, no_items, no_data, alone, made_follows}
-use Rattle.js_tree.proofs.Laying.{IsAround, AllAround, FirstInstead, Arounds, AroundIf, is_accessor, PlainForm, PlainEnding, AllPlain, PlainEnds, is_statement, SmallIf, SmallTree, RawItems, RawPart, LeafIf, PlainIf, is_plain, Suits, Laid, Flow, Empty, may_finish}
+use Rattle.js_tree.proofs.Following.{Follows, done, failed, known, weaker, andthen, Flat, FlatIn, FlatForm, FlatEnding, FlatEndings, FlatParts, FlatWork, FlatGot, flat_join, node_follows}
+use Rattle.js_tree.proofs.FollowSteps.{one_follows, no_items, no_data, alone, made_follows}
+use Rattle.js_tree.proofs.Laying.{IsAround, AllAround, FirstInstead, Arounds, is_accessor, PlainForm, PlainEnding, AllPlain, PlainEnds, is_statement, SmallIf, RawItems, LeafIf, is_plain, Suits, Laid}
 
 -- an identifier is not deep
 abbrev pub IsIdent : Datum → Type 0
@@ -64,15 +60,19 @@ ident_kept = record {
   shorthand = λ ds t u h made again. ident_made kinds.ShorthandProperty (one (child t)) u refl again;
   name_of = λ t n h e. tt;
   list = λ ds h. tt;
-  no_node = tt; no_label = tt; flags = λ b. tt; wholes = λ n. tt; choices = λ n. tt;
+  no_node = tt;
+  no_label = tt;
+  flags = λ b. tt;
+  wholes = λ n. tt;
+  choices = λ n. tt;
 }
 
 parameter_follows : (C : Type 0) (i : ℕ) → Follows C (λ t. C × Flat t) (λ t. Unit {0}) (one_parameter limited i) (one_parameter unlimited i)
 parameter_follows C i =
     andthen C (λ t. C × Flat t) (λ t. branch kinds.BindingIdentifier (one (name i)) ≡ t) (λ t. C × Flat t) (λ t. Unit {0}) (limited kinds.BindingIdentifier (one (name i))) (unlimited kinds.BindingIdentifier (one (name i))) _ _ (made_follows C kinds.BindingIdentifier (one (name i)))
     (λ b j. known (C × Flat b) (λ t. C × Flat t) (λ t. branch kinds.FormalParameters (two (listed (one (child b))) absent) ≡ t) (λ t. Unit {0}) (limited kinds.FormalParameters (two (listed (one (child b))) absent)) (unlimited kinds.FormalParameters (two (listed (one (child b))) absent)) tt
-        (weaker (C × FlatIn (two (listed (one (child b))) absent)) (C × Flat b) (λ t. C × Flat t) (λ t. branch kinds.FormalParameters (two (listed (one (child b))) absent) ≡ t) (limited kinds.FormalParameters (two (listed (one (child b))) absent)) (unlimited kinds.FormalParameters (two (listed (one (child b))) absent))
-            (λ h. let a : depth_in (two (listed (one (child b))) absent) ≤ 512 = h.1 in (h.0, omega (arith, a))) (node_follows C kinds.FormalParameters (two (listed (one (child b))) absent))))
+    (weaker (C × FlatIn (two (listed (one (child b))) absent)) (C × Flat b) (λ t. C × Flat t) (λ t. branch kinds.FormalParameters (two (listed (one (child b))) absent) ≡ t) (limited kinds.FormalParameters (two (listed (one (child b))) absent)) (unlimited kinds.FormalParameters (two (listed (one (child b))) absent))
+    (λ h. let a : depth_in (two (listed (one (child b))) absent) ≤ 512 = h.1 in (h.0, omega (arith, a))) (node_follows C kinds.FormalParameters (two (listed (one (child b))) absent))))
 
 parameters_by : (C : Type 0) (t : Tree) (o : Option ℕ) → identifier t ≡ o → IsIdent (child t) → Follows (C × Flat t) (λ u. C × Flat u) (λ u. Unit {0}) (parameters_or limited t o) (parameters_or unlimited t o)
 parameters_by C t None e ident = done _ _ _ t (λ h. h) tt
@@ -88,15 +88,15 @@ contents_follow C params body =
     andthen (C × Flat params × FlatIn body) (λ t. (C × Flat params × FlatIn body) × Flat t) (λ t. branch kinds.AssertedParameterScope no_parameter_names ≡ t) (λ u. C × Flat u) (λ u. Unit {0}) (limited kinds.AssertedParameterScope no_parameter_names) (unlimited kinds.AssertedParameterScope no_parameter_names) _ _
     (made_follows (C × Flat params × FlatIn body) kinds.AssertedParameterScope no_parameter_names)
     (λ scope js. weaker (C × Flat params × FlatIn body × Flat scope) ((C × Flat params × FlatIn body) × Flat scope) (λ u. C × Flat u) (λ u. Unit {0}) _ _ (λ h. ((h.0, h.1, h.2), h.3))
-        (andthen (C × Flat params × FlatIn body × Flat scope) (λ t. (C × Flat params × FlatIn body × Flat scope) × Flat t) (λ t. branch kinds.AssertedVarScope no_names ≡ t) (λ u. C × Flat u) (λ u. Unit {0}) (limited kinds.AssertedVarScope no_names) (unlimited kinds.AssertedVarScope no_names)
-            (λ vars. limited kinds.FunctionContents (more (child scope) (more (child params) (more (child vars) body)))) (λ vars. unlimited kinds.FunctionContents (more (child scope) (more (child params) (more (child vars) body))))
-            (made_follows (C × Flat params × FlatIn body × Flat scope) kinds.AssertedVarScope no_names)
-            (λ vars jv. known ((C × Flat params × FlatIn body × Flat scope) × Flat vars) (λ u. C × Flat u) (λ u. branch kinds.FunctionContents (more (child scope) (more (child params) (more (child vars) body))) ≡ u) (λ u. Unit {0})
-                (limited kinds.FunctionContents (more (child scope) (more (child params) (more (child vars) body)))) (unlimited kinds.FunctionContents (more (child scope) (more (child params) (more (child vars) body)))) tt
-                (weaker (C × FlatIn (more (child scope) (more (child params) (more (child vars) body)))) ((C × Flat params × FlatIn body × Flat scope) × Flat vars) (λ u. C × Flat u) (λ u. branch kinds.FunctionContents (more (child scope) (more (child params) (more (child vars) body))) ≡ u)
-                    (limited kinds.FunctionContents (more (child scope) (more (child params) (more (child vars) body)))) (unlimited kinds.FunctionContents (more (child scope) (more (child params) (more (child vars) body))))
-                    (λ h. let a : depth_in (more (child scope) (more (child params) (more (child vars) body))) ≤ 512 = h.1 in ((h.0, omega (arith, a), omega (arith, a), omega (arith, a)), omega (arith, a)))
-                    (node_follows C kinds.FunctionContents (more (child scope) (more (child params) (more (child vars) body))))))))
+    (andthen (C × Flat params × FlatIn body × Flat scope) (λ t. (C × Flat params × FlatIn body × Flat scope) × Flat t) (λ t. branch kinds.AssertedVarScope no_names ≡ t) (λ u. C × Flat u) (λ u. Unit {0}) (limited kinds.AssertedVarScope no_names) (unlimited kinds.AssertedVarScope no_names)
+    (λ vars. limited kinds.FunctionContents (more (child scope) (more (child params) (more (child vars) body)))) (λ vars. unlimited kinds.FunctionContents (more (child scope) (more (child params) (more (child vars) body))))
+    (made_follows (C × Flat params × FlatIn body × Flat scope) kinds.AssertedVarScope no_names)
+    (λ vars jv. known ((C × Flat params × FlatIn body × Flat scope) × Flat vars) (λ u. C × Flat u) (λ u. branch kinds.FunctionContents (more (child scope) (more (child params) (more (child vars) body))) ≡ u) (λ u. Unit {0})
+    (limited kinds.FunctionContents (more (child scope) (more (child params) (more (child vars) body)))) (unlimited kinds.FunctionContents (more (child scope) (more (child params) (more (child vars) body)))) tt
+    (weaker (C × FlatIn (more (child scope) (more (child params) (more (child vars) body)))) ((C × Flat params × FlatIn body × Flat scope) × Flat vars) (λ u. C × Flat u) (λ u. branch kinds.FunctionContents (more (child scope) (more (child params) (more (child vars) body))) ≡ u)
+    (limited kinds.FunctionContents (more (child scope) (more (child params) (more (child vars) body)))) (unlimited kinds.FunctionContents (more (child scope) (more (child params) (more (child vars) body))))
+    (λ h. let a : depth_in (more (child scope) (more (child params) (more (child vars) body))) ≤ 512 = h.1 in ((h.0, omega (arith, a), omega (arith, a), omega (arith, a)), omega (arith, a)))
+    (node_follows C kinds.FunctionContents (more (child scope) (more (child params) (more (child vars) body))))))))
 
 label_follows : (C : Type 0) (t : Tree) (o : Option ℕ) → identifier t ≡ o → IsIdent (child t) → Follows (C × Flat t) (λ d. C × (depth_at d ≤ 512)) (λ d. Unit {0}) (there o >>= λ n. Ok (name n)) (there o >>= λ n. Ok (name n))
 label_follows C t None e ident = failed _ _ _
@@ -111,8 +111,8 @@ stands_follows C forms.Parameters t ident =
 stands_follows C (forms.Contents body) t ident =
     weaker ((C × FlatIn body) × Flat t) (C × FlatIn body × Flat t) (λ d. C × (depth_at d ≤ 512)) (λ d. Unit {0}) _ _ (λ h. (h.0.0, h.0.1, h.1))
     (andthen ((C × FlatIn body) × Flat t) (λ p. (C × FlatIn body) × Flat p) (λ p. Unit {0}) (λ d. C × (depth_at d ≤ 512)) (λ d. Unit {0}) (parameters_of limited t) (parameters_of unlimited t) (λ p. contents_of limited p body >>= λ c. Ok (child c)) (λ p. contents_of unlimited p body >>= λ c. Ok (child c)) (parameters_follow (C × FlatIn body) t ident)
-        (λ p j. weaker (C × Flat p × FlatIn body) ((C × FlatIn body) × Flat p) (λ d. C × (depth_at d ≤ 512)) (λ d. Unit {0}) _ _ (λ h. ((h.0, h.2), h.1))
-            (andthen (C × Flat p × FlatIn body) (λ c. C × Flat c) (λ c. Unit {0}) (λ d. C × (depth_at d ≤ 512)) (λ d. Unit {0}) (contents_of limited p body) (contents_of unlimited p body) (λ c. Ok (child c)) (λ c. Ok (child c)) (contents_follow C p body) (λ c k. done _ _ _ (child c) (λ h. h) tt))))
+    (λ p j. weaker (C × Flat p × FlatIn body) ((C × FlatIn body) × Flat p) (λ d. C × (depth_at d ≤ 512)) (λ d. Unit {0}) _ _ (λ h. ((h.0, h.2), h.1))
+    (andthen (C × Flat p × FlatIn body) (λ c. C × Flat c) (λ c. Unit {0}) (λ d. C × (depth_at d ≤ 512)) (λ d. Unit {0}) (contents_of limited p body) (contents_of unlimited p body) (λ c. Ok (child c)) (λ c. Ok (child c)) (contents_follow C p body) (λ c k. done _ _ _ (child c) (λ h. h) tt))))
 stands_follows C forms.Label t ident =
     weaker (C × Flat t) (C × Unit {0} × Flat t) (λ d. C × (depth_at d ≤ 512)) (λ d. Unit {0}) _ _ (λ h. (h.0, tt, h.1)) (label_follows C t (identifier t) refl ident)
 stands_follows C (forms.Declared ds) t ident = failed _ _ _
@@ -122,10 +122,10 @@ unfolding ended
 ended_follows C (endings.Around k form before behind) t around ident =
     weaker ((C × FlatIn before × FlatIn behind) × FlatForm form × Flat t) (C × (FlatForm form × FlatIn before × FlatIn behind) × Flat t) (λ u. C × Flat u) (λ u. Unit {0}) _ _ (λ h. (h.0.0, (h.1, h.0.1, h.0.2), h.2))
     (andthen ((C × FlatIn before × FlatIn behind) × FlatForm form × Flat t) (λ d. (C × FlatIn before × FlatIn behind) × (depth_at d ≤ 512)) (λ d. Unit {0}) (λ u. C × Flat u) (λ u. Unit {0}) (stands limited form t) (stands unlimited form t)
-        (λ d. limited k (join before (more d behind))) (λ d. unlimited k (join before (more d behind))) (stands_follows (C × FlatIn before × FlatIn behind) form t ident)
-        (λ d j. known ((C × FlatIn before × FlatIn behind) × (depth_at d ≤ 512)) (λ u. C × Flat u) (λ u. branch k (join before (more d behind)) ≡ u) (λ u. Unit {0}) (limited k (join before (more d behind))) (unlimited k (join before (more d behind))) tt
-            (weaker (C × FlatIn (join before (more d behind))) ((C × FlatIn before × FlatIn behind) × (depth_at d ≤ 512)) (λ u. C × Flat u) (λ u. branch k (join before (more d behind)) ≡ u) (limited k (join before (more d behind))) (unlimited k (join before (more d behind)))
-                (λ h. let s = flat_join before (more d behind) h.1 in let a : depth_in (more d behind) ≤ 512 = s.1 in ((h.0, s.0, omega (arith, a)), omega (arith, a))) (node_follows C k (join before (more d behind))))))
+    (λ d. limited k (join before (more d behind))) (λ d. unlimited k (join before (more d behind))) (stands_follows (C × FlatIn before × FlatIn behind) form t ident)
+    (λ d j. known ((C × FlatIn before × FlatIn behind) × (depth_at d ≤ 512)) (λ u. C × Flat u) (λ u. branch k (join before (more d behind)) ≡ u) (λ u. Unit {0}) (limited k (join before (more d behind))) (unlimited k (join before (more d behind))) tt
+    (weaker (C × FlatIn (join before (more d behind))) ((C × FlatIn before × FlatIn behind) × (depth_at d ≤ 512)) (λ u. C × Flat u) (λ u. branch k (join before (more d behind)) ≡ u) (limited k (join before (more d behind))) (unlimited k (join before (more d behind)))
+    (λ h. let s = flat_join before (more d behind) h.1 in let a : depth_in (more d behind) ≤ 512 = s.1 in ((h.0, s.0, omega (arith, a)), omega (arith, a))) (node_follows C k (join before (more d behind))))))
 ended_follows C (endings.Instead u) t around ident = absurd around
 
 folded_follows : (C : Type 0) (es : List Ending) (t : Tree) → AllAround es → HoldsEndings IsIdent es → IsIdent (child t) → Follows (C × FlatEndings es × Flat t) (λ u. C × Flat u) (λ u. Unit {0}) (folded limited es t) (folded unlimited es t)
@@ -133,7 +133,7 @@ folded_follows C [] t around idents ident = done _ _ _ t (λ h. (h.0, tt, h.1)) 
 folded_follows C (e ∷ es) t around idents ident =
     andthen (C × FlatEndings (e ∷ es) × Flat t) (λ u. (C × FlatEndings es) × Flat u) (λ u. IsIdent (child u)) (λ u. C × Flat u) (λ u. Unit {0}) (ended limited e t) (ended unlimited e t) (folded limited es) (folded unlimited es)
     (known (C × FlatEndings (e ∷ es) × Flat t) (λ u. (C × FlatEndings es) × Flat u) (λ u. Unit {0}) (λ u. IsIdent (child u)) (ended limited e t) (ended unlimited e t) (ended_held unlimited IsIdent ident_kept e t idents.0 ident)
-        (weaker ((C × FlatEndings es) × FlatEnding e × Flat t) (C × FlatEndings (e ∷ es) × Flat t) (λ u. (C × FlatEndings es) × Flat u) (λ u. Unit {0}) (ended limited e t) (ended unlimited e t) (λ h. (h.0.0, (h.1, h.0.1), h.2)) (ended_follows (C × FlatEndings es) e t around.0 ident)))
+    (weaker ((C × FlatEndings es) × FlatEnding e × Flat t) (C × FlatEndings (e ∷ es) × Flat t) (λ u. (C × FlatEndings es) × Flat u) (λ u. Unit {0}) (ended limited e t) (ended unlimited e t) (λ h. (h.0.0, (h.1, h.0.1), h.2)) (ended_follows (C × FlatEndings es) e t around.0 ident)))
     (λ u j. weaker (C × FlatEndings es × Flat u) ((C × FlatEndings es) × Flat u) (λ v. C × Flat v) (λ v. Unit {0}) (folded limited es u) (folded unlimited es u) (λ h. ((h.0, h.1), h.2)) (folded_follows C es u around.1 idents.1 j))
 
 -- where an operand that is not deep is replaced, nothing deep is lost
@@ -243,11 +243,11 @@ folds_finish s outer w ps head laid spare around idents small =
     either_follows (FlatGot (w, ps)) FlatParts (Laid (s ∷ outer)) (length w.endings == 0) (Ok (parts.Values w.values w.raw ∷ ps)) (Ok (parts.Values w.values w.raw ∷ ps)) _ _
     (λ is. done _ _ _ (parts.Values w.values w.raw ∷ ps) (λ z. (with_spare w spare z.0 (no_more w.endings is), z.1)) (head_values s head w.values w.raw (small_up (is_statement s) w.raw w.values small), laid))
     (λ is. weaker ((FlatEndings w.endings × FlatParts ps) × FlatIn w.values) (FlatGot (w, ps)) FlatParts (Laid (s ∷ outer)) _ _ (λ h. (with_spare w spare h.1 h.0.0, h.0.1))
-        (andthen ((FlatEndings w.endings × FlatParts ps) × FlatIn w.values) (λ t. (FlatEndings w.endings × FlatParts ps) × Flat t) (λ t. w.values ≡ one (child t)) FlatParts (Laid (s ∷ outer)) (one_node w.values) (one_node w.values)
-            (λ t. folded limited w.endings t >>= λ t. Ok (parts.Values (one (child t)) None ∷ ps)) (λ t. folded unlimited w.endings t >>= λ t. Ok (parts.Values (one (child t)) None ∷ ps)) (one_node_follows (FlatEndings w.endings × FlatParts ps) w.values)
-            (λ t j. tree_end s outer ps ((FlatEndings w.endings × FlatParts ps) × Flat t) (λ u. Unit {0}) (folded limited w.endings t) (folded unlimited w.endings t) head laid
-                (weaker (FlatParts ps × FlatEndings w.endings × Flat t) ((FlatEndings w.endings × FlatParts ps) × Flat t) (λ u. FlatParts ps × Flat u) (λ u. Unit {0}) _ _ (λ h. ((h.1, h.0), h.2))
-                    (folded_follows (FlatParts ps) w.endings t around idents.endings (ident_of w.values t j idents.values))))))
+    (andthen ((FlatEndings w.endings × FlatParts ps) × FlatIn w.values) (λ t. (FlatEndings w.endings × FlatParts ps) × Flat t) (λ t. w.values ≡ one (child t)) FlatParts (Laid (s ∷ outer)) (one_node w.values) (one_node w.values)
+    (λ t. folded limited w.endings t >>= λ t. Ok (parts.Values (one (child t)) None ∷ ps)) (λ t. folded unlimited w.endings t >>= λ t. Ok (parts.Values (one (child t)) None ∷ ps)) (one_node_follows (FlatEndings w.endings × FlatParts ps) w.values)
+    (λ t j. tree_end s outer ps ((FlatEndings w.endings × FlatParts ps) × Flat t) (λ u. Unit {0}) (folded limited w.endings t) (folded unlimited w.endings t) head laid
+    (weaker (FlatParts ps × FlatEndings w.endings × Flat t) ((FlatEndings w.endings × FlatParts ps) × Flat t) (λ u. FlatParts ps × Flat u) (λ u. Unit {0}) _ _ (λ h. ((h.1, h.0), h.2))
+    (folded_follows (FlatParts ps) w.endings t around idents.endings (ident_of w.values t j idents.values))))))
 
 statement_depth : (raw : Option NameId) (ds : Data) (t : Tree) → branch kinds.ExpressionStatement ds ≡ t → SmallIf false raw ds → SmallIf true raw (one (child t))
 statement_depth None ds t e small = tt
@@ -259,16 +259,16 @@ unfolding statement
 statement_finish s outer w ps is_one head laid spare around idents small =
     either_follows (FlatGot (w, ps)) FlatParts (Laid (s ∷ outer)) (length w.endings == 0) (limited kinds.ExpressionStatement w.values >>= λ t. Ok (parts.Values (one (child t)) w.raw ∷ ps)) (unlimited kinds.ExpressionStatement w.values >>= λ t. Ok (parts.Values (one (child t)) w.raw ∷ ps)) (folds limited w ps) (folds unlimited w ps)
     (λ is. andthen (FlatGot (w, ps)) (λ t. FlatParts ps × Flat t) (λ t. branch kinds.ExpressionStatement w.values ≡ t) FlatParts (Laid (s ∷ outer)) (limited kinds.ExpressionStatement w.values) (unlimited kinds.ExpressionStatement w.values) (λ t. Ok (parts.Values (one (child t)) w.raw ∷ ps)) (λ t. Ok (parts.Values (one (child t)) w.raw ∷ ps))
-        (weaker (FlatParts ps × FlatIn w.values) (FlatGot (w, ps)) (λ t. FlatParts ps × Flat t) (λ t. branch kinds.ExpressionStatement w.values ≡ t) (limited kinds.ExpressionStatement w.values) (unlimited kinds.ExpressionStatement w.values) (λ h. (with_spare w spare h.1 (no_more w.endings is), h.0)) (node_follows (FlatParts ps) kinds.ExpressionStatement w.values))
-        (λ t j. done _ _ _ (parts.Values (one (child t)) w.raw ∷ ps) (λ z. (z.1, alone (child t) z.0))
-            (head_values s head (one (child t)) w.raw (subst (λ b. SmallIf b w.raw (one (child t))) (sym is_one) (statement_depth w.raw w.values t j small)), laid)))
+    (weaker (FlatParts ps × FlatIn w.values) (FlatGot (w, ps)) (λ t. FlatParts ps × Flat t) (λ t. branch kinds.ExpressionStatement w.values ≡ t) (limited kinds.ExpressionStatement w.values) (unlimited kinds.ExpressionStatement w.values) (λ h. (with_spare w spare h.1 (no_more w.endings is), h.0)) (node_follows (FlatParts ps) kinds.ExpressionStatement w.values))
+    (λ t j. done _ _ _ (parts.Values (one (child t)) w.raw ∷ ps) (λ z. (z.1, alone (child t) z.0))
+    (head_values s head (one (child t)) w.raw (subst (λ b. SmallIf b w.raw (one (child t))) (sym is_one) (statement_depth w.raw w.values t j small)), laid)))
     (λ is. folds_finish s outer w ps head laid spare around idents small)
 
 shorthand_follows : (C : Type 0) (ds : Data) → Follows (C × FlatIn ds) (λ u. C × Flat u) (λ u. Unit {0}) (shorthand limited ds) (shorthand unlimited ds)
 shorthand_follows C ds =
     andthen (C × FlatIn ds) (λ t. C × Flat t) (λ t. branch kinds.IdentifierExpression ds ≡ t) (λ u. C × Flat u) (λ u. Unit {0}) (limited kinds.IdentifierExpression ds) (unlimited kinds.IdentifierExpression ds) (λ t. limited kinds.ShorthandProperty (one (child t))) (λ t. unlimited kinds.ShorthandProperty (one (child t))) (node_follows C kinds.IdentifierExpression ds)
     (λ t j. known (C × Flat t) (λ u. C × Flat u) (λ u. branch kinds.ShorthandProperty (one (child t)) ≡ u) (λ u. Unit {0}) (limited kinds.ShorthandProperty (one (child t))) (unlimited kinds.ShorthandProperty (one (child t))) tt
-        (weaker (C × FlatIn (one (child t))) (C × Flat t) (λ u. C × Flat u) (λ u. branch kinds.ShorthandProperty (one (child t)) ≡ u) (limited kinds.ShorthandProperty (one (child t))) (unlimited kinds.ShorthandProperty (one (child t))) (λ h. (h.0, alone (child t) h.1)) (node_follows C kinds.ShorthandProperty (one (child t)))))
+    (weaker (C × FlatIn (one (child t))) (C × Flat t) (λ u. C × Flat u) (λ u. branch kinds.ShorthandProperty (one (child t)) ≡ u) (limited kinds.ShorthandProperty (one (child t))) (unlimited kinds.ShorthandProperty (one (child t))) (λ h. (h.0, alone (child t) h.1)) (node_follows C kinds.ShorthandProperty (one (child t)))))
 
 property_name_flat : (ds : Data) (t : Tree) → branch kinds.LiteralPropertyName ds ≡ t → depth_in ds ≤ 1 → Flat t
 property_name_flat ds t e small = let d : depth (branch kinds.LiteralPropertyName ds) ≤ 512 = omega (arith, small) in subst Flat e d
@@ -282,13 +282,13 @@ unfolding property
 property_finish s outer w ps head laid spare first idents small =
     either_follows (FlatGot (w, ps)) FlatParts (Laid (s ∷ outer)) (length w.endings == 0) (shorthand limited w.values >>= λ t. Ok (parts.Values (one (child t)) None ∷ ps)) (shorthand unlimited w.values >>= λ t. Ok (parts.Values (one (child t)) None ∷ ps)) _ _
     (λ is. tree_end s outer ps (FlatGot (w, ps)) (λ u. Unit {0}) (shorthand limited w.values) (shorthand unlimited w.values) head laid
-        (weaker (FlatParts ps × FlatIn w.values) (FlatGot (w, ps)) (λ u. FlatParts ps × Flat u) (λ u. Unit {0}) (shorthand limited w.values) (shorthand unlimited w.values) (λ h. (with_spare w spare h.1 (no_more w.endings is), h.0)) (shorthand_follows (FlatParts ps) w.values)))
+    (weaker (FlatParts ps × FlatIn w.values) (FlatGot (w, ps)) (λ u. FlatParts ps × Flat u) (λ u. Unit {0}) (shorthand limited w.values) (shorthand unlimited w.values) (λ h. (with_spare w spare h.1 (no_more w.endings is), h.0)) (shorthand_follows (FlatParts ps) w.values)))
     (λ is. andthen (FlatGot (w, ps)) (λ t. (FlatEndings w.endings × FlatParts ps) × Flat t) (λ t. branch kinds.LiteralPropertyName w.values ≡ t) FlatParts (Laid (s ∷ outer)) (limited kinds.LiteralPropertyName w.values) (unlimited kinds.LiteralPropertyName w.values)
-        (λ t. folded limited w.endings t >>= λ t. Ok (parts.Values (one (child t)) None ∷ ps)) (λ t. folded unlimited w.endings t >>= λ t. Ok (parts.Values (one (child t)) None ∷ ps))
-        (weaker ((FlatEndings w.endings × FlatParts ps) × FlatIn w.values) (FlatGot (w, ps)) (λ t. (FlatEndings w.endings × FlatParts ps) × Flat t) (λ t. branch kinds.LiteralPropertyName w.values ≡ t) (limited kinds.LiteralPropertyName w.values) (unlimited kinds.LiteralPropertyName w.values) (λ h. (with_spare w spare h.1 h.0.0, h.0.1)) (node_follows (FlatEndings w.endings × FlatParts ps) kinds.LiteralPropertyName w.values))
-        (λ t j. tree_end s outer ps ((FlatEndings w.endings × FlatParts ps) × Flat t) (λ u. Unit {0}) (folded limited w.endings t) (folded unlimited w.endings t) head laid
-            (weaker (FlatParts ps × FlatEndings w.endings × Flat t) ((FlatEndings w.endings × FlatParts ps) × Flat t) (λ u. FlatParts ps × Flat u) (λ u. Unit {0}) _ _ (λ h. ((h.1, h.0), h.2))
-                (replaced_follows (FlatParts ps) w.endings t first idents.endings (property_ident w.values t j) (property_name_flat w.values t j small)))))
+    (λ t. folded limited w.endings t >>= λ t. Ok (parts.Values (one (child t)) None ∷ ps)) (λ t. folded unlimited w.endings t >>= λ t. Ok (parts.Values (one (child t)) None ∷ ps))
+    (weaker ((FlatEndings w.endings × FlatParts ps) × FlatIn w.values) (FlatGot (w, ps)) (λ t. (FlatEndings w.endings × FlatParts ps) × Flat t) (λ t. branch kinds.LiteralPropertyName w.values ≡ t) (limited kinds.LiteralPropertyName w.values) (unlimited kinds.LiteralPropertyName w.values) (λ h. (with_spare w spare h.1 h.0.0, h.0.1)) (node_follows (FlatEndings w.endings × FlatParts ps) kinds.LiteralPropertyName w.values))
+    (λ t j. tree_end s outer ps ((FlatEndings w.endings × FlatParts ps) × Flat t) (λ u. Unit {0}) (folded limited w.endings t) (folded unlimited w.endings t) head laid
+    (weaker (FlatParts ps × FlatEndings w.endings × Flat t) ((FlatEndings w.endings × FlatParts ps) × Flat t) (λ u. FlatParts ps × Flat u) (λ u. Unit {0}) _ _ (λ h. ((h.1, h.0), h.2))
+    (replaced_follows (FlatParts ps) w.endings t first idents.endings (property_ident w.values t j) (property_name_flat w.values t j small)))))
 
 pub plain_flat : (f : Form) → PlainForm f → FlatForm f
 plain_flat forms.Plain h = tt
@@ -312,6 +312,6 @@ unfolding fills
 fills_finish s outer w ps np head laid spare plain =
     weaker ((FlatParts ps × FlatEndings w.endings) × FlatIn w.values) (FlatGot (w, ps)) FlatParts (Laid (s ∷ outer)) _ _ (λ h. (with_spare w spare h.1 h.0.1, h.0.0))
     (andthen ((FlatParts ps × FlatEndings w.endings) × FlatIn w.values) (λ d. (FlatParts ps × FlatEndings w.endings) × (depth_at d ≤ 512)) (λ d. w.values ≡ one d) FlatParts (Laid (s ∷ outer)) (one_value w.values) (one_value w.values) (λ d. one_ending w.endings >>= λ e. filled e d ps) (λ d. one_ending w.endings >>= λ e. filled e d ps) (one_follows (FlatParts ps × FlatEndings w.endings) w.values)
-        (λ d j. weaker ((FlatParts ps × (depth_at d ≤ 512)) × FlatEndings w.endings) ((FlatParts ps × FlatEndings w.endings) × (depth_at d ≤ 512)) FlatParts (Laid (s ∷ outer)) _ _ (λ h. ((h.0.0, h.1), h.0.1))
-            (andthen ((FlatParts ps × (depth_at d ≤ 512)) × FlatEndings w.endings) (λ e. (FlatParts ps × (depth_at d ≤ 512)) × FlatEnding e) (λ e. (AllPlain w.endings → PlainEnding e)) FlatParts (Laid (s ∷ outer)) (one_ending w.endings) (one_ending w.endings) (λ e. filled e d ps) (λ e. filled e d ps) (one_ending_follows (FlatParts ps × (depth_at d ≤ 512)) w.endings)
-                (λ e k. weaker (FlatParts ps × FlatEnding e × (depth_at d ≤ 512)) ((FlatParts ps × (depth_at d ≤ 512)) × FlatEnding e) FlatParts (Laid (s ∷ outer)) _ _ (λ h. ((h.0, h.2), h.1)) (filled_finish s outer e d ps np head laid (k plain))))))
+    (λ d j. weaker ((FlatParts ps × (depth_at d ≤ 512)) × FlatEndings w.endings) ((FlatParts ps × FlatEndings w.endings) × (depth_at d ≤ 512)) FlatParts (Laid (s ∷ outer)) _ _ (λ h. ((h.0.0, h.1), h.0.1))
+    (andthen ((FlatParts ps × (depth_at d ≤ 512)) × FlatEndings w.endings) (λ e. (FlatParts ps × (depth_at d ≤ 512)) × FlatEnding e) (λ e. (AllPlain w.endings → PlainEnding e)) FlatParts (Laid (s ∷ outer)) (one_ending w.endings) (one_ending w.endings) (λ e. filled e d ps) (λ e. filled e d ps) (one_ending_follows (FlatParts ps × (depth_at d ≤ 512)) w.endings)
+    (λ e k. weaker (FlatParts ps × FlatEnding e × (depth_at d ≤ 512)) ((FlatParts ps × (depth_at d ≤ 512)) × FlatEnding e) FlatParts (Laid (s ∷ outer)) _ _ (λ h. ((h.0, h.2), h.1)) (filled_finish s outer e d ps np head laid (k plain))))))

@@ -1,8 +1,7 @@
 -- The tree with the limit follows the one without it.
-use Rattle.std.proofs.Common.{◌≡◌, ◌≤◌, ◌<◌, ◌+◌, ◌==◌, ℕ, zero, suc, cond, Bool, true, false, not, ◌&&◌, length, get_or, List, [], ◌∷◌, ◌++◌, reverse, Option, Some, None, Result, Ok, Err, refl, sym, ap, ◌∙◌, subst, arith}
+use Rattle.std.proofs.Common.{◌≡◌, ◌≤◌, ◌<◌, ◌==◌, ℕ, zero, suc, Bool, true, false, not, ◌&&◌, length, List, [], ◌∷◌, ◌++◌, reverse, Result, Ok, Err, refl, sym, subst, arith}
 use Rattle.std.specs.List.{Contains, list_all}
-use Rattle.bast_base.specs.declared.errors.NameId.{NameId}
-use Rattle.bast_schema.specs.Tree.{Tree, Data, depth, depth_in}
+use Rattle.bast_schema.specs.Tree.{Tree, depth}
 use Rattle.js_grammar.specs.Rows.{alternatives, row_symbols}
 use Rattle.js_grammar.specs.declared.symbols.Level.TheVariants as levels
 use Rattle.js_grammar.specs.declared.symbols.RowId.{RowId}
@@ -16,9 +15,9 @@ use Rattle.js_tree.specs.Finishes.{finish_on}
 use Rattle.js_tree.specs.Image.{row_part, leaf_part, event_part, image, root, tree_of}
 use Rattle.js_tree.specs.Leads.{Leads, over, took, counts, expands, is_leaf}
 use Rattle.js_tree.specs.Nodes.{limited, unlimited}
-use Rattle.js_tree.specs.Parts.{one_node, taken_values}
+use Rattle.js_tree.specs.Parts.{one_node}
 use Rattle.js_tree.specs.Recipes.{recipe}
-use Rattle.js_tree.specs.Results.{◌>>=◌, broken}
+use Rattle.js_tree.specs.Results.{broken}
 use Rattle.js_tree.specs.Steps.{gathered, no_work}
 use Rattle.js_tree.specs.declared.fault.Fault.{Fault}
 use Rattle.js_tree.specs.declared.fault.Fault.TheVariants as faults
@@ -26,14 +25,14 @@ use Rattle.js_tree.specs.declared.leaf.Leaf.{Leaf}
 use Rattle.js_tree.specs.declared.parts.Part.{Part}
 use Rattle.js_tree.specs.declared.parts.Part.TheVariants as parts
 use Rattle.js_tree.specs.declared.work.Work.{Work}
-use Rattle.js_tree.proofs.Holding.{Holds, each_result, HoldsParts, HoldsWork}
+use Rattle.js_tree.proofs.Holding.{Holds, each_result, HoldsParts}
 use Rattle.js_tree.proofs.Gathering.{Got, all_got}
 use Rattle.js_tree.proofs.Finishing.{HoldsState, image_held, nothing, row_makes}
 use Rattle.js_tree.proofs.Following.{Follows, Agrees, alike, done, failed, known, weaker, andthen, mapped, Flat, FlatIn, FlatParts, FlatWork, FlatGot}
 use Rattle.js_tree.proofs.FollowSteps.{Stepped, all_follow}
-use Rattle.js_tree.proofs.FollowFinishes.{IsIdent, ident_kept, Head, one_node_follows, either_follows}
-use Rattle.js_tree.proofs.FollowAll.{RawRow, RawFact, raw_row, finish_follows, nothing_empty}
-use Rattle.js_tree.proofs.Laying.{LeafIf, Suits, Laid, Flow, Empty, no_flow, may_finish, may_head, may_leave, may_all, left_by_all, after_all}
+use Rattle.js_tree.proofs.FollowFinishes.{IsIdent, ident_kept, one_node_follows, either_follows}
+use Rattle.js_tree.proofs.FollowAll.{RawRow, raw_row, finish_follows, nothing_empty}
+use Rattle.js_tree.proofs.Laying.{LeafIf, Suits, Laid, no_flow, may_finish, may_head, may_leave, may_all, left_by_all, after_all}
 use Rattle.js_tree.proofs.Leading.{accepted_leads}
 use Rattle.js_tree.proofs.TreesHold.{no_names_in}
 
@@ -41,8 +40,8 @@ use Rattle.js_tree.proofs.TreesHold.{no_names_in}
 abbrev is_sound : Symbol → RowId → Bool
 is_sound s r =
     not (is_leaf s) && (may_all (recipe r).0 (row_symbols r) no_flow
-        && (may_finish (recipe r).1 (after_all (recipe r).0 (row_symbols r) no_flow)
-            && (may_head s (recipe r).1 (after_all (recipe r).0 (row_symbols r) no_flow) && may_leave s (recipe r).1 (left_by_all (recipe r).0 (row_symbols r)))))
+    && (may_finish (recipe r).1 (after_all (recipe r).0 (row_symbols r) no_flow)
+    && (may_head s (recipe r).1 (after_all (recipe r).0 (row_symbols r) no_flow) && may_leave s (recipe r).1 (left_by_all (recipe r).0 (row_symbols r)))))
 
 all_sound : (s : Symbol) → list_all (is_sound s) (alternatives s) ≡ true
 all_sound (symbols.Level levels.LogicalOr m) = refl
@@ -98,7 +97,7 @@ five false b c d e h = absurd cc
 sound : (s : Symbol) (r : RowId) → Contains (alternatives s) r → Sound s r
 sound s r c =
     let m = five (not (is_leaf s)) (may_all (recipe r).0 (row_symbols r) no_flow) (may_finish (recipe r).1 (after_all (recipe r).0 (row_symbols r) no_flow)) (may_head s (recipe r).1 (after_all (recipe r).0 (row_symbols r) no_flow)) (may_leave s (recipe r).1 (left_by_all (recipe r).0 (row_symbols r)))
-        (each_sound (is_sound s) (alternatives s) r (all_sound s) c)
+    (each_sound (is_sound s) (alternatives s) r (all_sound s) c)
     in record { no_leaf = m.0; may = m.1; ends = m.2; top = m.3; leaves = m.4 }
 
 no_leaf_is : (b : Bool) → not b ≡ true → b ≡ false
@@ -122,10 +121,10 @@ row_follows s r outer ps ok laid idents =
     in let i = all_got unlimited IsIdent ident_kept (recipe r).0 no_work ps (row_makes r).0 (nothing IsIdent) idents
     in let w = raw_row r outer ps ok.may laid
     in andthen (FlatParts ps) FlatGot (RowGot r outer) FlatParts (Laid (s ∷ outer)) (gathered limited (recipe r).0 no_work ps) (gathered unlimited (recipe r).0 no_work ps) (λ g. finish_on limited (recipe r).1 g.0 g.1) (λ g. finish_on unlimited (recipe r).1 g.0 g.1)
-        (weaker (FlatGot (no_work, ps)) (FlatParts ps) FlatGot (RowGot r outer) (gathered limited (recipe r).0 no_work ps) (gathered unlimited (recipe r).0 no_work ps) (λ h. h.1)
-            (known (FlatGot (no_work, ps)) FlatGot (Stepped (after_all (recipe r).0 (row_symbols r) no_flow) (left_by_all (recipe r).0 (row_symbols r) ++ outer)) (RowGot r outer) (gathered limited (recipe r).0 no_work ps) (gathered unlimited (recipe r).0 no_work ps)
-                (both_hold (Stepped (after_all (recipe r).0 (row_symbols r) no_flow) (left_by_all (recipe r).0 (row_symbols r) ++ outer)) (λ x. Got IsIdent x × RawRow r x) (gathered unlimited (recipe r).0 no_work ps) g.fact (both_hold (Got IsIdent) (RawRow r) (gathered unlimited (recipe r).0 no_work ps) i w)) g))
-        (λ x k. finish_follows (recipe r).1 s (after_all (recipe r).0 (row_symbols r) no_flow) (left_by_all (recipe r).0 (row_symbols r)) outer x.0 x.1 ok.ends ok.top ok.leaves (record { no_leaf = no_leaf_is (is_leaf s) ok.no_leaf }) k.0.0 k.1.0.0 k.1.1 k.0.1)
+    (weaker (FlatGot (no_work, ps)) (FlatParts ps) FlatGot (RowGot r outer) (gathered limited (recipe r).0 no_work ps) (gathered unlimited (recipe r).0 no_work ps) (λ h. h.1)
+    (known (FlatGot (no_work, ps)) FlatGot (Stepped (after_all (recipe r).0 (row_symbols r) no_flow) (left_by_all (recipe r).0 (row_symbols r) ++ outer)) (RowGot r outer) (gathered limited (recipe r).0 no_work ps) (gathered unlimited (recipe r).0 no_work ps)
+    (both_hold (Stepped (after_all (recipe r).0 (row_symbols r) no_flow) (left_by_all (recipe r).0 (row_symbols r) ++ outer)) (λ x. Got IsIdent x × RawRow r x) (gathered unlimited (recipe r).0 no_work ps) g.fact (both_hold (Got IsIdent) (RawRow r) (gathered unlimited (recipe r).0 no_work ps) i w)) g))
+    (λ x k. finish_follows (recipe r).1 s (after_all (recipe r).0 (row_symbols r) no_flow) (left_by_all (recipe r).0 (row_symbols r)) outer x.0 x.1 ok.ends ok.top ok.leaves (record { no_leaf = no_leaf_is (is_leaf s) ok.no_leaf }) k.0.0 k.1.0.0 k.1.1 k.0.1)
 
 abbrev FlatState : List Leaf × List Part → Type 0
 FlatState s = FlatParts s.1
@@ -176,8 +175,8 @@ root_follows s (parts.Items is ∷ ps) laid = failed _ _ _
 root_follows s (parts.Values ds raw ∷ ps) laid =
     either_follows (FlatParts (parts.Values ds raw ∷ ps)) Flat (λ t. Unit {0}) (length ps == 0) (one_node ds) (one_node ds) broken broken
     (λ e. alike (FlatParts (parts.Values ds raw ∷ ps)) Flat (λ t. Unit {0}) (one_node ds)
-        (mapped (λ t. Unit {0} × Flat t → Unit {0} × FlatIn ds) (λ t. Flat t → FlatParts (parts.Values ds raw ∷ ps)) (one_node ds) (λ t f flat. ((f (tt, flat)).1, none_more ps laid.1)) (one_node_follows (Unit {0}) ds).back)
-        (each_result (λ t. Unit {0}) (one_node ds) (λ t e. tt)))
+    (mapped (λ t. Unit {0} × Flat t → Unit {0} × FlatIn ds) (λ t. Flat t → FlatParts (parts.Values ds raw ∷ ps)) (one_node ds) (λ t f flat. ((f (tt, flat)).1, none_more ps laid.1)) (one_node_follows (Unit {0}) ds).back)
+    (each_result (λ t. Unit {0}) (one_node ds) (λ t e. tt)))
     (λ e. failed _ _ _)
 
 tree_follows : (es : List Event) (ls : List Leaf) → Leads (symbols.Script ∷ []) es → Follows (Unit {0}) Flat (λ t. Unit {0}) (tree_of limited ls es) (tree_of unlimited ls es)

@@ -1,5 +1,5 @@
 -- What the steps of a recipe gather with the limit follows what they gather without it.
-use Rattle.std.proofs.Common.{◌≡◌, ◌≤◌, ◌<◌, ◌+◌, ℕ, max, cond, Bool, true, false, not, ◌&&◌, List, [], ◌∷◌, ◌++◌, Option, Some, None, Result, Ok, Err, refl, sym, ap, ◌∙◌, subst, arith}
+use Rattle.std.proofs.Common.{◌≡◌, ◌≤◌, Bool, true, false, not, ◌&&◌, List, [], ◌∷◌, ◌++◌, Option, Some, None, Result, Ok, refl, sym, subst, arith}
 use Rattle.bast_base.specs.declared.errors.NameId.{NameId}
 use Rattle.bast_schema.specs.declared.kind.EnumId.{EnumId}
 use Rattle.bast_schema.specs.declared.kind.Kind.{Kind}
@@ -9,12 +9,11 @@ use Rattle.bast_schema.specs.Tree.{Tree, branch, Datum, child, absent, listed, f
 use Rattle.js_grammar.specs.declared.symbols.Symbol.{Symbol}
 use Rattle.js_tree.specs.Nodes.{one, two, no_names, no_parameter_names, limited, unlimited, statements, behind_directive, behind_directives, directives, directives_from}
 use Rattle.js_tree.specs.Operators.{operator}
-use Rattle.js_tree.specs.Parts.{first_value, one_value, without_top, taken_leaf, taken_values, taken_endings, taken_items}
+use Rattle.js_tree.specs.Parts.{first_value, one_value, taken_leaf, taken_values, taken_endings, taken_items}
 use Rattle.js_tree.specs.Leads.{is_leaf}
-use Rattle.js_tree.specs.Results.{◌>>=◌, there, broken}
-use Rattle.js_tree.specs.Steps.{Gathered, gather, gathered, with_value, with_node, step_on, skip, put, operand, wrap, text, number, whole_number, named, quoted, with_operator, parameter_of, parameter, template_part, tail, rest, with_statements, body, hold, resume, closed}
+use Rattle.js_tree.specs.Results.{◌>>=◌, there}
+use Rattle.js_tree.specs.Steps.{gather, gathered, with_value, with_node, step_on, skip, put, operand, wrap, text, number, whole_number, named, quoted, with_operator, parameter_of, parameter, template_part, tail, rest, with_statements, body, hold, resume, closed}
 use Rattle.js_tree.specs.declared.fault.Fault.{Fault}
-use Rattle.js_tree.specs.declared.leaf.Leaf.{Leaf}
 use Rattle.js_tree.specs.declared.parts.Part.{Part}
 use Rattle.js_tree.specs.declared.parts.Part.TheVariants as parts
 use Rattle.js_tree.specs.declared.parts.Ending.{Ending}
@@ -22,9 +21,9 @@ use Rattle.js_tree.specs.declared.parts.Item.{Item}
 use Rattle.js_tree.specs.declared.recipe.Step.{Step}
 use Rattle.js_tree.specs.declared.recipe.Step.TheVariants as steps
 use Rattle.js_tree.specs.declared.work.Work.{Work}
-use Rattle.js_tree.proofs.Holding.{Holds, each_result}
-use Rattle.js_tree.proofs.Following.{mapped, Follows, done, failed, alike, known, weaker, andthen, Flat, FlatIn, FlatEndings, FlatItems, FlatPart, FlatParts, FlatWork, FlatGot, flat_join, flat_endings, node_follows}
-use Rattle.js_tree.proofs.Laying.{AllPlain, AllAround, Arounds, is_accessor, PlainEnds, SmallTree, RawItems, LeafIf, PlainIf, is_plain, Suits, Laid, Flow, Empty, adds, with_raw, with_tail, with_rest, with_body, holds, resumes, takes_one, takes_two, behind, may_step, left_by, after, may_all, left_by_all, after_all}
+use Rattle.js_tree.proofs.Holding.{each_result}
+use Rattle.js_tree.proofs.Following.{Follows, done, failed, alike, known, weaker, andthen, Flat, FlatIn, FlatEndings, FlatItems, FlatPart, FlatParts, FlatWork, FlatGot, flat_join, flat_endings, node_follows}
+use Rattle.js_tree.proofs.Laying.{AllPlain, AllAround, Arounds, is_accessor, PlainEnds, SmallTree, RawItems, LeafIf, is_plain, Laid, Flow, Empty, adds, with_raw, with_tail, with_rest, with_body, holds, resumes, may_step, left_by, after, may_all, left_by_all, after_all}
 
 abbrev pub Stepped : Flow → List Symbol → Work × List Part → Type 0
 Stepped b xs r = Empty b r.0 × Laid xs r.1
@@ -180,23 +179,23 @@ unfolding named
 named_follows k b w x xs ps e laid =
     andthen (FlatGot (w, ps)) (λ l. FlatWork w × FlatParts l.1) (λ l. Laid xs l.1) FlatGot (Stepped (adds b) xs) (taken_leaf ps) (taken_leaf ps) _ _ (leaf_follows (FlatWork w) x xs ps laid)
     (λ l j. andthen (FlatGot (w, l.1)) (λ n. FlatGot (w, l.1)) (λ n. Unit {0}) FlatGot (Stepped (adds b) xs) (there l.0.text) (there l.0.text) (λ n. with_node (limited k (one (name n.0))) w l.1) (λ n. with_node (unlimited k (one (name n.0))) w l.1) (keep _ _)
-        (λ n u. tree_follows (FlatGot (w, l.1)) (λ t. branch k (one (name n.0)) ≡ t) (limited k (one (name n.0))) (unlimited k (one (name n.0))) b w xs l.1 e j (made_follows (FlatGot (w, l.1)) k (one (name n.0)))))
+    (λ n u. tree_follows (FlatGot (w, l.1)) (λ t. branch k (one (name n.0)) ≡ t) (limited k (one (name n.0))) (unlimited k (one (name n.0))) b w xs l.1 e j (made_follows (FlatGot (w, l.1)) k (one (name n.0)))))
 
 quoted_follows : (b : Flow) (w : Work) (x : Symbol) (xs : List Symbol) (ps : List Part) → Empty b w → Laid (x ∷ xs) ps → Follows (FlatGot (w, ps)) FlatGot (Stepped (with_raw b) xs) (quoted limited w ps) (quoted unlimited w ps)
 unfolding quoted
 quoted_follows b w x xs ps e laid =
     andthen (FlatGot (w, ps)) (λ l. FlatWork w × FlatParts l.1) (λ l. Laid xs l.1) FlatGot (Stepped (with_raw b) xs) (taken_leaf ps) (taken_leaf ps) _ _ (leaf_follows (FlatWork w) x xs ps laid)
     (λ l j. andthen (FlatGot (w, l.1)) (λ n. FlatGot (w, l.1)) (λ n. Unit {0}) FlatGot (Stepped (with_raw b) xs) (there l.0.text) (there l.0.text) _ _ (keep _ _)
-        (λ n u. andthen (FlatGot (w, l.1)) (λ t. FlatGot (w, l.1) × Flat t) (λ t. branch kinds.LiteralStringExpression (one (name n.0)) ≡ t) FlatGot (Stepped (with_raw b) xs)
-            (limited kinds.LiteralStringExpression (one (name n.0))) (unlimited kinds.LiteralStringExpression (one (name n.0))) _ _ (made_follows (FlatGot (w, l.1)) kinds.LiteralStringExpression (one (name n.0)))
-            (λ t k. done _ _ _ (record w { values = join w.values (one (child t)); raw = l.0.raw }, l.1) (λ z. let k = raw_back w (one (child t)) l.0.raw z.0 in ((k.0, z.1), alone (child t) k.1)) (raw_added b w (join w.values (one (child t))) l.0.raw e, j))))
+    (λ n u. andthen (FlatGot (w, l.1)) (λ t. FlatGot (w, l.1) × Flat t) (λ t. branch kinds.LiteralStringExpression (one (name n.0)) ≡ t) FlatGot (Stepped (with_raw b) xs)
+    (limited kinds.LiteralStringExpression (one (name n.0))) (unlimited kinds.LiteralStringExpression (one (name n.0))) _ _ (made_follows (FlatGot (w, l.1)) kinds.LiteralStringExpression (one (name n.0)))
+    (λ t k. done _ _ _ (record w { values = join w.values (one (child t)); raw = l.0.raw }, l.1) (λ z. let k = raw_back w (one (child t)) l.0.raw z.0 in ((k.0, z.1), alone (child t) k.1)) (raw_added b w (join w.values (one (child t))) l.0.raw e, j))))
 
 parameter_of_follows : (C : Type 0) (t : Tree) (d : Datum) → Follows (C × Flat t × (depth_at d ≤ 512)) (λ u. C × Flat u) (λ u. Unit {0}) (parameter_of limited t d) (parameter_of unlimited t d)
 parameter_of_follows C t absent = done _ _ _ t (λ h. (h.0, h.1, omega arith)) tt
 parameter_of_follows C t (child u) =
     known (C × Flat t × (depth_at (child u) ≤ 512)) (λ v. C × Flat v) (λ v. branch kinds.BindingWithInitializer (two (child t) (child u)) ≡ v) (λ v. Unit {0}) (limited kinds.BindingWithInitializer (two (child t) (child u))) (unlimited kinds.BindingWithInitializer (two (child t) (child u))) tt
     (weaker (C × FlatIn (two (child t) (child u))) (C × Flat t × (depth_at (child u) ≤ 512)) (λ v. C × Flat v) (λ v. branch kinds.BindingWithInitializer (two (child t) (child u)) ≡ v) (limited kinds.BindingWithInitializer (two (child t) (child u))) (unlimited kinds.BindingWithInitializer (two (child t) (child u)))
-        (λ h. let a : depth_in (two (child t) (child u)) ≤ 512 = h.1 in (h.0, omega (arith, a), omega (arith, a))) (node_follows C kinds.BindingWithInitializer (two (child t) (child u))))
+    (λ h. let a : depth_in (two (child t) (child u)) ≤ 512 = h.1 in (h.0, omega (arith, a), omega (arith, a))) (node_follows C kinds.BindingWithInitializer (two (child t) (child u))))
 parameter_of_follows C t (listed ds) = failed _ _ _
 parameter_of_follows C t (flag c) = failed _ _ _
 parameter_of_follows C t (index n) = failed _ _ _
@@ -211,30 +210,30 @@ unfolding parameter
 parameter_follows b w x y xs ps e laid =
     andthen (FlatGot (w, ps)) (λ l. FlatWork w × FlatParts l.1) (λ l. Laid (y ∷ xs) l.1) FlatGot (Stepped (adds b) xs) (taken_leaf ps) (taken_leaf ps) _ _ (leaf_follows (FlatWork w) x (y ∷ xs) ps laid)
     (λ l j. andthen (FlatGot (w, l.1)) (λ n. FlatGot (w, l.1)) (λ n. Unit {0}) FlatGot (Stepped (adds b) xs) (there l.0.text) (there l.0.text) _ _ (keep _ _)
-        (λ n u. andthen (FlatGot (w, l.1)) (λ t. FlatGot (w, l.1) × Flat t) (λ t. branch kinds.BindingIdentifier (one (name n.0)) ≡ t) FlatGot (Stepped (adds b) xs)
-            (limited kinds.BindingIdentifier (one (name n.0))) (unlimited kinds.BindingIdentifier (one (name n.0))) _ _ (made_follows (FlatGot (w, l.1)) kinds.BindingIdentifier (one (name n.0)))
-            (λ t k. andthen (FlatGot (w, l.1) × Flat t) (FlatValues (FlatWork w × Flat t)) (KnownValues xs) FlatGot (Stepped (adds b) xs) (taken_values l.1) (taken_values l.1) _ _
-                (weaker ((FlatWork w × Flat t) × FlatParts l.1) (FlatGot (w, l.1) × Flat t) (FlatValues (FlatWork w × Flat t)) (KnownValues xs) (taken_values l.1) (taken_values l.1) (λ h. ((h.0.0, h.1), h.0.1)) (values_follows (FlatWork w × Flat t) y xs l.1 j))
-                (λ v jv. andthen (FlatValues (FlatWork w × Flat t) v) (λ d. ((FlatWork w × FlatParts v.1) × Flat t) × (depth_at d ≤ 512)) (λ d. v.0.0 ≡ one d) FlatGot (Stepped (adds b) xs) (one_value v.0.0) (one_value v.0.0) _ _
-                    (weaker (((FlatWork w × FlatParts v.1) × Flat t) × FlatIn v.0.0) (FlatValues (FlatWork w × Flat t) v) (λ d. ((FlatWork w × FlatParts v.1) × Flat t) × (depth_at d ≤ 512)) (λ d. v.0.0 ≡ one d) (one_value v.0.0) (one_value v.0.0) (λ h. ((h.0.0.0, h.0.1), h.1, h.0.0.1)) (one_follows ((FlatWork w × FlatParts v.1) × Flat t) v.0.0))
-                    (λ d jd. tree_follows (((FlatWork w × FlatParts v.1) × Flat t) × (depth_at d ≤ 512)) (λ u. Unit {0}) (parameter_of limited t d) (parameter_of unlimited t d) b w xs v.1 e jv
-                        (weaker ((FlatWork w × FlatParts v.1) × Flat t × (depth_at d ≤ 512)) (((FlatWork w × FlatParts v.1) × Flat t) × (depth_at d ≤ 512)) (λ u. (FlatWork w × FlatParts v.1) × Flat u) (λ u. Unit {0}) (parameter_of limited t d) (parameter_of unlimited t d) (λ h. ((h.0, h.1), h.2)) (parameter_of_follows (FlatWork w × FlatParts v.1) t d)))))))
+    (λ n u. andthen (FlatGot (w, l.1)) (λ t. FlatGot (w, l.1) × Flat t) (λ t. branch kinds.BindingIdentifier (one (name n.0)) ≡ t) FlatGot (Stepped (adds b) xs)
+    (limited kinds.BindingIdentifier (one (name n.0))) (unlimited kinds.BindingIdentifier (one (name n.0))) _ _ (made_follows (FlatGot (w, l.1)) kinds.BindingIdentifier (one (name n.0)))
+    (λ t k. andthen (FlatGot (w, l.1) × Flat t) (FlatValues (FlatWork w × Flat t)) (KnownValues xs) FlatGot (Stepped (adds b) xs) (taken_values l.1) (taken_values l.1) _ _
+    (weaker ((FlatWork w × Flat t) × FlatParts l.1) (FlatGot (w, l.1) × Flat t) (FlatValues (FlatWork w × Flat t)) (KnownValues xs) (taken_values l.1) (taken_values l.1) (λ h. ((h.0.0, h.1), h.0.1)) (values_follows (FlatWork w × Flat t) y xs l.1 j))
+    (λ v jv. andthen (FlatValues (FlatWork w × Flat t) v) (λ d. ((FlatWork w × FlatParts v.1) × Flat t) × (depth_at d ≤ 512)) (λ d. v.0.0 ≡ one d) FlatGot (Stepped (adds b) xs) (one_value v.0.0) (one_value v.0.0) _ _
+    (weaker (((FlatWork w × FlatParts v.1) × Flat t) × FlatIn v.0.0) (FlatValues (FlatWork w × Flat t) v) (λ d. ((FlatWork w × FlatParts v.1) × Flat t) × (depth_at d ≤ 512)) (λ d. v.0.0 ≡ one d) (one_value v.0.0) (one_value v.0.0) (λ h. ((h.0.0.0, h.0.1), h.1, h.0.0.1)) (one_follows ((FlatWork w × FlatParts v.1) × Flat t) v.0.0))
+    (λ d jd. tree_follows (((FlatWork w × FlatParts v.1) × Flat t) × (depth_at d ≤ 512)) (λ u. Unit {0}) (parameter_of limited t d) (parameter_of unlimited t d) b w xs v.1 e jv
+    (weaker ((FlatWork w × FlatParts v.1) × Flat t × (depth_at d ≤ 512)) (((FlatWork w × FlatParts v.1) × Flat t) × (depth_at d ≤ 512)) (λ u. (FlatWork w × FlatParts v.1) × Flat u) (λ u. Unit {0}) (parameter_of limited t d) (parameter_of unlimited t d) (λ h. ((h.0, h.1), h.2)) (parameter_of_follows (FlatWork w × FlatParts v.1) t d)))))))
 
 template_follows : (b : Flow) (w : Work) (x y : Symbol) (xs : List Symbol) (ps : List Part) → Empty b w → Laid (x ∷ y ∷ xs) ps → Follows (FlatGot (w, ps)) FlatGot (Stepped (adds b) xs) (template_part limited w ps) (template_part unlimited w ps)
 unfolding template_part
 template_follows b w x y xs ps e laid =
     andthen (FlatGot (w, ps)) (FlatValues (FlatWork w)) (KnownValues (y ∷ xs)) FlatGot (Stepped (adds b) xs) (taken_values ps) (taken_values ps) _ _ (values_follows (FlatWork w) x (y ∷ xs) ps laid)
     (λ v jv. andthen (FlatValues (FlatWork w) v) (λ d. (FlatWork w × FlatParts v.1) × (depth_at d ≤ 512)) (λ d. v.0.0 ≡ one d) FlatGot (Stepped (adds b) xs) (one_value v.0.0) (one_value v.0.0) _ _
-        (weaker ((FlatWork w × FlatParts v.1) × FlatIn v.0.0) (FlatValues (FlatWork w) v) (λ d. (FlatWork w × FlatParts v.1) × (depth_at d ≤ 512)) (λ d. v.0.0 ≡ one d) (one_value v.0.0) (one_value v.0.0) (λ h. (h.0.0, h.1, h.0.1)) (one_follows (FlatWork w × FlatParts v.1) v.0.0))
-        (λ d jd. andthen ((FlatWork w × FlatParts v.1) × (depth_at d ≤ 512)) (FlatValues (FlatWork w × (depth_at d ≤ 512))) (KnownValues xs) FlatGot (Stepped (adds b) xs) (taken_values v.1) (taken_values v.1) _ _
-            (weaker ((FlatWork w × (depth_at d ≤ 512)) × FlatParts v.1) ((FlatWork w × FlatParts v.1) × (depth_at d ≤ 512)) (FlatValues (FlatWork w × (depth_at d ≤ 512))) (KnownValues xs) (taken_values v.1) (taken_values v.1) (λ h. ((h.0.0, h.1), h.0.1)) (values_follows (FlatWork w × (depth_at d ≤ 512)) y xs v.1 jv))
-            (λ u ju. andthen (FlatValues (FlatWork w × (depth_at d ≤ 512)) u) (λ f. ((FlatWork w × FlatParts u.1) × (depth_at d ≤ 512)) × (depth_at f.0 ≤ 512) × FlatIn f.1) (λ f. Unit {0}) FlatGot (Stepped (adds b) xs) (first_value u.0.0) (first_value u.0.0) _ _
-                (weaker (((FlatWork w × FlatParts u.1) × (depth_at d ≤ 512)) × FlatIn u.0.0) (FlatValues (FlatWork w × (depth_at d ≤ 512)) u) (λ f. ((FlatWork w × FlatParts u.1) × (depth_at d ≤ 512)) × (depth_at f.0 ≤ 512) × FlatIn f.1) (λ f. Unit {0}) (first_value u.0.0) (first_value u.0.0) (λ h. ((h.0.0.0, h.0.1), h.1, h.0.0.1)) (first_follows ((FlatWork w × FlatParts u.1) × (depth_at d ≤ 512)) u.0.0))
-                (λ f jf. andthen (((FlatWork w × FlatParts u.1) × (depth_at d ≤ 512)) × (depth_at f.0 ≤ 512) × FlatIn f.1) (λ t. ((FlatWork w × FlatParts u.1) × FlatIn f.1) × Flat t) (λ t. branch kinds.TemplatePart (two d f.0) ≡ t) FlatGot (Stepped (adds b) xs) (limited kinds.TemplatePart (two d f.0)) (unlimited kinds.TemplatePart (two d f.0)) _ _
-                    (weaker (((FlatWork w × FlatParts u.1) × FlatIn f.1) × FlatIn (two d f.0)) (((FlatWork w × FlatParts u.1) × (depth_at d ≤ 512)) × (depth_at f.0 ≤ 512) × FlatIn f.1) (λ t. ((FlatWork w × FlatParts u.1) × FlatIn f.1) × Flat t) (λ t. branch kinds.TemplatePart (two d f.0) ≡ t) (limited kinds.TemplatePart (two d f.0)) (unlimited kinds.TemplatePart (two d f.0))
-                        (λ h. let a : depth_in (two d f.0) ≤ 512 = h.1 in ((h.0.0, omega (arith, a)), omega (arith, a), h.0.1)) (node_follows ((FlatWork w × FlatParts u.1) × FlatIn f.1) kinds.TemplatePart (two d f.0)))
-                    (λ t jt. done _ _ _ (record w { values = join w.values (more (child t) f.1) }, u.1)
-                        (λ z. let k = work_back w (more (child t) f.1) z.0 in let a : depth_in (more (child t) f.1) ≤ 512 = k.1 in (((k.0, z.1), omega (arith, a)), omega (arith, a))) (added b w (join w.values (more (child t) f.1)) e, ju))))))
+    (weaker ((FlatWork w × FlatParts v.1) × FlatIn v.0.0) (FlatValues (FlatWork w) v) (λ d. (FlatWork w × FlatParts v.1) × (depth_at d ≤ 512)) (λ d. v.0.0 ≡ one d) (one_value v.0.0) (one_value v.0.0) (λ h. (h.0.0, h.1, h.0.1)) (one_follows (FlatWork w × FlatParts v.1) v.0.0))
+    (λ d jd. andthen ((FlatWork w × FlatParts v.1) × (depth_at d ≤ 512)) (FlatValues (FlatWork w × (depth_at d ≤ 512))) (KnownValues xs) FlatGot (Stepped (adds b) xs) (taken_values v.1) (taken_values v.1) _ _
+    (weaker ((FlatWork w × (depth_at d ≤ 512)) × FlatParts v.1) ((FlatWork w × FlatParts v.1) × (depth_at d ≤ 512)) (FlatValues (FlatWork w × (depth_at d ≤ 512))) (KnownValues xs) (taken_values v.1) (taken_values v.1) (λ h. ((h.0.0, h.1), h.0.1)) (values_follows (FlatWork w × (depth_at d ≤ 512)) y xs v.1 jv))
+    (λ u ju. andthen (FlatValues (FlatWork w × (depth_at d ≤ 512)) u) (λ f. ((FlatWork w × FlatParts u.1) × (depth_at d ≤ 512)) × (depth_at f.0 ≤ 512) × FlatIn f.1) (λ f. Unit {0}) FlatGot (Stepped (adds b) xs) (first_value u.0.0) (first_value u.0.0) _ _
+    (weaker (((FlatWork w × FlatParts u.1) × (depth_at d ≤ 512)) × FlatIn u.0.0) (FlatValues (FlatWork w × (depth_at d ≤ 512)) u) (λ f. ((FlatWork w × FlatParts u.1) × (depth_at d ≤ 512)) × (depth_at f.0 ≤ 512) × FlatIn f.1) (λ f. Unit {0}) (first_value u.0.0) (first_value u.0.0) (λ h. ((h.0.0.0, h.0.1), h.1, h.0.0.1)) (first_follows ((FlatWork w × FlatParts u.1) × (depth_at d ≤ 512)) u.0.0))
+    (λ f jf. andthen (((FlatWork w × FlatParts u.1) × (depth_at d ≤ 512)) × (depth_at f.0 ≤ 512) × FlatIn f.1) (λ t. ((FlatWork w × FlatParts u.1) × FlatIn f.1) × Flat t) (λ t. branch kinds.TemplatePart (two d f.0) ≡ t) FlatGot (Stepped (adds b) xs) (limited kinds.TemplatePart (two d f.0)) (unlimited kinds.TemplatePart (two d f.0)) _ _
+    (weaker (((FlatWork w × FlatParts u.1) × FlatIn f.1) × FlatIn (two d f.0)) (((FlatWork w × FlatParts u.1) × (depth_at d ≤ 512)) × (depth_at f.0 ≤ 512) × FlatIn f.1) (λ t. ((FlatWork w × FlatParts u.1) × FlatIn f.1) × Flat t) (λ t. branch kinds.TemplatePart (two d f.0) ≡ t) (limited kinds.TemplatePart (two d f.0)) (unlimited kinds.TemplatePart (two d f.0))
+    (λ h. let a : depth_in (two d f.0) ≤ 512 = h.1 in ((h.0.0, omega (arith, a)), omega (arith, a), h.0.1)) (node_follows ((FlatWork w × FlatParts u.1) × FlatIn f.1) kinds.TemplatePart (two d f.0)))
+    (λ t jt. done _ _ _ (record w { values = join w.values (more (child t) f.1) }, u.1)
+    (λ z. let k = work_back w (more (child t) f.1) z.0 in let a : depth_in (more (child t) f.1) ≤ 512 = k.1 in (((k.0, z.1), omega (arith, a)), omega (arith, a))) (added b w (join w.values (more (child t) f.1)) e, ju))))))
 
 plain_join : (es fs : List Ending) → AllPlain es → AllPlain fs → AllPlain (es ++ fs)
 plain_join [] fs h k = k
@@ -259,8 +258,8 @@ unfolding tail
 tail_follows b w x xs ps e laid =
     andthen (FlatGot (w, ps)) (FlatTaken (FlatWork w)) (KnownEndings (is_plain x) (is_accessor x) xs) FlatGot (Stepped (with_tail x b) xs) (taken_endings ps) (taken_endings ps) _ _ (endings_follows (FlatWork w) x xs ps laid)
     (λ t j. done _ _ _ (record w { endings = w.endings ++ t.0 }, t.1)
-        (λ z. let s = flat_endings w.endings t.0 z.0.endings in (record { values = z.0.values; held = z.0.held; directives = z.0.directives; endings = s.0; items = z.0.items }, s.1, z.1))
-        (record { values = e.values; held = e.held; directives = e.directives; endings = λ t. absurd cc; items = e.items; raw = e.raw; plain = plain_tail b.plain (is_plain x) w.endings t.0 e.plain j.0; around = around_tail b.around (is_accessor x) w.endings t.0 e.around j.1 }, j.2))
+    (λ z. let s = flat_endings w.endings t.0 z.0.endings in (record { values = z.0.values; held = z.0.held; directives = z.0.directives; endings = s.0; items = z.0.items }, s.1, z.1))
+    (record { values = e.values; held = e.held; directives = e.directives; endings = λ t. absurd cc; items = e.items; raw = e.raw; plain = plain_tail b.plain (is_plain x) w.endings t.0 e.plain j.0; around = around_tail b.around (is_accessor x) w.endings t.0 e.around j.1 }, j.2))
 
 not_true : (b : Bool) → not b ≡ true → b ≡ false
 not_true true e = sym e
@@ -277,8 +276,8 @@ unfolding rest
 rest_follows b w x xs ps free e laid =
     andthen (FlatGot (w, ps)) (FlatList (FlatWork w)) (KnownItems xs) FlatGot (Stepped (with_rest b) xs) (taken_items ps) (taken_items ps) _ _ (items_follows (FlatWork w) x xs ps laid)
     (λ i j. done _ _ _ (record w { items = i.0 }, i.1)
-        (λ z. (record { values = z.0.values; held = z.0.held; directives = z.0.directives; endings = z.0.endings; items = no_items w.items (e.items free) }, z.0.items, z.1))
-        (record { values = e.values; held = e.held; directives = e.directives; endings = e.endings; items = λ t. absurd cc; raw = e.raw; plain = e.plain; around = e.around }, j.1))
+    (λ z. (record { values = z.0.values; held = z.0.held; directives = z.0.directives; endings = z.0.endings; items = no_items w.items (e.items free) }, z.0.items, z.1))
+    (record { values = e.values; held = e.held; directives = e.directives; endings = e.endings; items = λ t. absurd cc; raw = e.raw; plain = e.plain; around = e.around }, j.1))
 
 all_flat : (is : List Item) → FlatIn (statements is) → FlatItems is
 all_flat [] h = tt
@@ -318,12 +317,12 @@ unfolding body
 body_follows b w x xs ps free e laid =
     andthen (FlatGot (w, ps)) (FlatList (FlatWork w)) (KnownItems xs) FlatGot (Stepped (with_body b) xs) (taken_items ps) (taken_items ps) _ _ (items_follows (FlatWork w) x xs ps laid)
     (λ i j. andthen (FlatList (FlatWork w) i) (λ ds. FlatList (FlatWork w) i) (λ ds. Unit {0}) FlatGot (Stepped (with_body b) xs) (directives limited i.0) (directives unlimited i.0) _ _ (directives_follows (FlatList (FlatWork w) i) i.0)
-        (λ ds u. done _ _ _ (record w { values = join w.values (one (listed (statements (behind_directives i.0)))); directives = ds }, i.1)
-            (λ z. let s = flat_join w.values (one (listed (statements (behind_directives i.0)))) z.0.values
-                in let a : depth_in (one (listed (statements (behind_directives i.0)))) ≤ 512 = s.1
-                in let c : depth_in (statements (behind_directives i.0)) ≤ 512 = omega (arith, a)
-                in (record { values = s.0; held = z.0.held; directives = no_data w.directives (e.directives free); endings = z.0.endings; items = z.0.items }, flat_items i.0 j.0 c, z.1))
-            (record { values = λ t. absurd cc; held = e.held; directives = λ t. absurd cc; endings = e.endings; items = e.items; raw = e.raw; plain = e.plain; around = e.around }, j.1)))
+    (λ ds u. done _ _ _ (record w { values = join w.values (one (listed (statements (behind_directives i.0)))); directives = ds }, i.1)
+    (λ z. let s = flat_join w.values (one (listed (statements (behind_directives i.0)))) z.0.values
+    in let a : depth_in (one (listed (statements (behind_directives i.0)))) ≤ 512 = s.1
+    in let c : depth_in (statements (behind_directives i.0)) ≤ 512 = omega (arith, a)
+    in (record { values = s.0; held = z.0.held; directives = no_data w.directives (e.directives free); endings = z.0.endings; items = z.0.items }, flat_items i.0 j.0 c, z.1))
+    (record { values = λ t. absurd cc; held = e.held; directives = λ t. absurd cc; endings = e.endings; items = e.items; raw = e.raw; plain = e.plain; around = e.around }, j.1)))
 
 hold_follows : (b : Flow) (w : Work) (xs : List Symbol) (ps : List Part) → b.held ≡ false → Empty b w → Laid xs ps → Follows {A = Work × List Part} (FlatGot (w, ps)) FlatGot (Stepped (holds b) xs) (Ok (hold w, ps)) (Ok (hold w, ps))
 unfolding hold
@@ -336,8 +335,8 @@ unfolding resume
 resume_follows b w xs ps e laid =
     done _ _ _ (resume w, ps)
     (λ z. let s = flat_join w.held (more (listed w.directives) w.values) z.0.values
-        in let a : depth_in (more (listed w.directives) w.values) ≤ 512 = s.1
-        in (record { values = omega (arith, a); held = s.0; directives = omega (arith, a); endings = z.0.endings; items = z.0.items }, z.1))
+    in let a : depth_in (more (listed w.directives) w.values) ≤ 512 = s.1
+    in (record { values = omega (arith, a); held = s.0; directives = omega (arith, a); endings = z.0.endings; items = z.0.items }, z.1))
     (record { values = λ t. absurd cc; held = λ t. refl; directives = λ t. refl; endings = e.endings; items = e.items; raw = e.raw; plain = e.plain; around = e.around }, laid)
 
 -- the work but for its values
@@ -353,9 +352,9 @@ unfolding closed
 close_follows k b w xs ps e laid =
     andthen (FlatGot (w, ps)) (λ x. FlatWork x × FlatParts ps) (λ x. Empty (adds b) x) FlatGot (Stepped (adds b) xs) (closed limited k w) (closed unlimited k w) (λ x. Ok (x, ps)) (λ x. Ok (x, ps))
     (andthen (FlatGot (w, ps)) (λ t. (FlatRest w × FlatParts ps) × Flat t) (λ t. branch k w.values ≡ t) (λ x. FlatWork x × FlatParts ps) (λ x. Empty (adds b) x) (limited k w.values) (unlimited k w.values) (λ t. Ok (record w { values = one (child t) })) (λ t. Ok (record w { values = one (child t) }))
-        (weaker ((FlatRest w × FlatParts ps) × FlatIn w.values) (FlatGot (w, ps)) (λ t. (FlatRest w × FlatParts ps) × Flat t) (λ t. branch k w.values ≡ t) (limited k w.values) (unlimited k w.values)
-            (λ h. (record { values = h.1; held = h.0.0.held; directives = h.0.0.directives; endings = h.0.0.endings; items = h.0.0.items }, h.0.1)) (node_follows (FlatRest w × FlatParts ps) k w.values))
-        (λ t j. done _ _ _ (record w { values = one (child t) }) (λ z. ((record { held = z.0.held; directives = z.0.directives; endings = z.0.endings; items = z.0.items }, z.1), alone (child t) z.0.values)) (added b w (one (child t)) e)))
+    (weaker ((FlatRest w × FlatParts ps) × FlatIn w.values) (FlatGot (w, ps)) (λ t. (FlatRest w × FlatParts ps) × Flat t) (λ t. branch k w.values ≡ t) (limited k w.values) (unlimited k w.values)
+    (λ h. (record { values = h.1; held = h.0.0.held; directives = h.0.0.directives; endings = h.0.0.endings; items = h.0.0.items }, h.0.1)) (node_follows (FlatRest w × FlatParts ps) k w.values))
+    (λ t j. done _ _ _ (record w { values = one (child t) }) (λ z. ((record { held = z.0.held; directives = z.0.directives; endings = z.0.endings; items = z.0.items }, z.1), alone (child t) z.0.values)) (added b w (one (child t)) e)))
     (λ x j. done _ _ _ (x, ps) (λ z. z) (j, laid))
 
 step_follows : (s : Step) (b : Flow) (w : Work) (xs outer : List Symbol) (ps : List Part) → may_step s xs b ≡ true → Empty b w → Laid (xs ++ outer) ps
@@ -416,4 +415,4 @@ all_follow [] b w xs outer ps may e laid = done _ _ _ (w, ps) (λ z. z) (e, laid
 all_follow (s ∷ ss) b w xs outer ps may e laid =
     let m = both_are (may_step s xs b) (may_all ss (left_by s xs) (after s xs b)) may
     in andthen (FlatGot (w, ps)) FlatGot (Stepped (after s xs b) (left_by s xs ++ outer)) FlatGot (Stepped (after_all (s ∷ ss) xs b) (left_by_all (s ∷ ss) xs ++ outer)) (step_on limited s w ps) (step_on unlimited s w ps) _ _
-        (step_follows s b w xs outer ps m.0 e laid) (λ r j. all_follow ss (after s xs b) r.0 (left_by s xs) outer r.1 m.1 j.0 j.1)
+    (step_follows s b w xs outer ps m.0 e laid) (λ r j. all_follow ss (after s xs b) r.0 (left_by s xs) outer r.1 m.1 j.0 j.1)

@@ -1,14 +1,13 @@
 -- What is made with the limit follows what is made without it: it is the same, or a tree that is too deep stands in the other.
-use Rattle.std.proofs.Common.{◌≡◌, ◌≤◌, ◌<◌, ◌+◌, ℕ, max, cond, Bool, true, false, List, [], ◌∷◌, ◌++◌, Option, Some, None, Result, Ok, Err, refl, sym, ap, ◌∙◌, subst, arith}
+use Rattle.std.proofs.Common.{◌≡◌, ◌≤◌, ℕ, max, cond, Bool, true, false, List, [], ◌∷◌, ◌++◌, Option, Some, None, Result, Ok, Err, refl, sym, subst, arith}
 use Rattle.std.specs.Prelude.{nat_lt}
 use Rattle.std.proofs.lemmas.Bool.{ltb-true}
-use Rattle.bast_base.specs.declared.errors.NameId.{NameId}
 use Rattle.bast_schema.specs.declared.kind.Kind.{Kind}
 use Rattle.bast_schema.specs.declared.node.NodeFault.TheVariants.{TooDeep}
 use Rattle.bast_schema.specs.Counts.{join}
 use Rattle.bast_schema.specs.Fields.{fields}
 use Rattle.bast_schema.specs.Made.{node_or}
-use Rattle.bast_schema.specs.Tree.{Tree, branch, Datum, child, Data, none, more, depth, depth_at, depth_in, first_wrong}
+use Rattle.bast_schema.specs.Tree.{Tree, branch, Data, none, more, depth, depth_in, first_wrong}
 use Rattle.js_tree.specs.Nodes.{limited, unlimited, of_node}
 use Rattle.js_tree.specs.Results.{◌>>=◌, broken}
 use Rattle.js_tree.specs.declared.fault.Fault.{Fault}

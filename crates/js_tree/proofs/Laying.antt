@@ -1,5 +1,5 @@
 -- How the parts on the stack are laid out, and what a row's work may hold.
-use Rattle.std.proofs.Common.{◌≡◌, ◌≤◌, ℕ, cond, Bool, true, false, not, ◌&&◌, ◌||◌, List, [], ◌∷◌, Option, Some, None, refl}
+use Rattle.std.proofs.Common.{◌≡◌, ◌≤◌, cond, Bool, true, false, not, ◌&&◌, ◌||◌, List, [], ◌∷◌, Option, Some, None}
 use Rattle.bast_base.specs.declared.errors.NameId.{NameId}
 use Rattle.bast_schema.specs.Tree.{Tree, Data, none, depth, depth_in}
 use Rattle.js_grammar.specs.declared.symbols.Symbol.{Symbol}
