@@ -1,3 +1,11 @@
 pub mod Broken
+pub mod Closing
+pub mod Filling
+pub mod Finishing
+pub mod Gathers
 pub mod Runs
+pub mod Safe
+pub mod Shapes
+pub mod Sorts
 pub mod StatementLists
+pub mod Table
