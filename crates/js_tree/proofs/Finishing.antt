@@ -53,10 +53,10 @@ folds_fit (s ∷ []) Nothing NoTail v = suits s (field.Node v)
 folds_fit (s ∷ []) Nothing (Turns (Any u) x) v = suits s (field.Node u) && within x v
 folds_fit _ _ _ v = false
 
-abbrev fold_of : Maker → Bool → Data → Option NameId → List Ending → List Part → Finished
+abbrev pub fold_of : Maker → Bool → Data → Option NameId → List Ending → List Part → Finished
 fold_of m b ds raw es ps = cond b (with_values ds raw ps) (one_node ds >>= λ t. with_made (folded m es t) ps)
 
-folded_one : (m : Maker) (b : Bool) (v : Union) (t : Tree) (raw : Option NameId) (es : List Ending) (ps qs : List Part) → (length es == 0) ≡ b → ps ≡ qs → Safely (Is v) (folded m es t)
+pub folded_one : (m : Maker) (b : Bool) (v : Union) (t : Tree) (raw : Option NameId) (es : List Ending) (ps qs : List Part) → (length es == 0) ≡ b → ps ≡ qs → Safely (Is v) (folded m es t)
     → Makes m (Values (field.Node v ∷ []) Nothing) qs (fold_of m b (more (child t) none) raw es ps)
 folded_one m true v t raw es ps qs e same is = on_top m (Values (field.Node v ∷ []) Nothing) (parts.Values (more (child t) none) raw) ps qs same ((subst (λ l. Safely (Is v) (folded m l t)) (none_of es e) is, tt))
 folded_one m false v t raw es ps qs e same is = made_on_top m v (folded m es t) ps qs same is
