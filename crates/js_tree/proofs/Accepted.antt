@@ -71,10 +71,14 @@ pub record Sound (c : Class) (fs : List Frame) (st : State) : Type 0 where
   pub late : Open st.taken fs
   pub closed : is_behind (classes.CloseParen ∷ []) st.before ≡ true → st.row_from < st.taken
 
+abbrev pub is_function : Symbol → Bool
+is_function symbols.Function = true
+is_function _ = false
+
 -- an arrow comes behind each head: a fact of stacks and of the tokens that are left
 pub record Closes (K : List Frame → List Lookahead → Type 0) : Type 0 where
   pub mark : (fs : List Frame) (ts : List Lookahead) → K (EndMark ∷ fs) ts → K fs ts
-  pub row : (s : Symbol) (first : Class) (from n : ℕ) (fs : List Frame) (t : Lookahead) (ts : List Lookahead) (r : RowId) (b : Bool) → row_of s t.class t.newline_before ≡ Some r → K (Want s first from ∷ fs) (t ∷ ts) → K (want_all t.class n (row_symbols r) ++ under_mark b fs) (t ∷ ts)
+  pub row : (s : Symbol) (first : Class) (from n : ℕ) (fs : List Frame) (t : Lookahead) (ts : List Lookahead) (r : RowId) (b : Bool) → row_of s t.class t.newline_before ≡ Some r → (is_function s ≡ true → takes_class (terminals.One classes.Function) t.class ≡ true) → K (Want s first from ∷ fs) (t ∷ ts) → K (want_all t.class n (row_symbols r) ++ under_mark b fs) (t ∷ ts)
   pub inserted : (first : Class) (from : ℕ) (fs : List Frame) (ts : List Lookahead) → K (Want symbols.Semi first from ∷ fs) ts → K fs ts
   pub semicolon : (first : Class) (from : ℕ) (fs : List Frame) (t : Lookahead) (ts : List Lookahead) → is_among t.class (classes.Semicolon ∷ []) ≡ true → K (Want symbols.Semi first from ∷ fs) (t ∷ ts) → K fs ts
   pub token : (x : Terminal) (first : Class) (from : ℕ) (fs : List Frame) (t : Lookahead) (ts : List Lookahead) → takes_class x t.class ≡ true → K (Want (symbols.Take x) first from ∷ fs) (t ∷ ts) → K fs ts
@@ -328,11 +332,15 @@ module _ (m : Maker) (maker : IsMaker m) (K : List Frame → List Lookahead → 
   Next-of ts ls g = (st : State) → ((c : Class) → Sound c st.stack st) → K st.stack ts → g st ≡ Some (Accepted all) → Builds m st.stack st ts ls all
 
   abbrev New-of : Lookahead → (State → Option Outcome) → Type 0
-  New-of t h = (st : State) (first : Class) (from : ℕ) (fs : List Frame) → st.stack ≡ Want (symbols.Take (terminals.One classes.New)) first from ∷ fs → h st ≡ Some (Accepted all) → takes_class (terminals.One classes.New) t.class ≡ true
+  New-of t h = (st : State) (x : Terminal) (first : Class) (from : ℕ) (fs : List Frame) → st.stack ≡ Want (symbols.Take x) first from ∷ fs → h st ≡ Some (Accepted all) → takes_class x t.class ≡ true
 
   new_row : (s : Symbol) (c : Class) (newline : Bool) (r : RowId) → is_new s ≡ true → row_of s c newline ≡ Some r → rows.New ≡ r
   new_row symbols.New c newline r e is = cc
   new_row _ c newline r e is = cc
+
+  function_row : (s : Symbol) (c : Class) (newline : Bool) (r : RowId) → is_function s ≡ true → row_of s c newline ≡ Some r → rows.Function ≡ r
+  function_row symbols.Function c newline r e is = cc
+  function_row _ c newline r e is = cc
 
   row_taken : (deep follows : Bool) (r : RowId) (s : Symbol) (first : Class) (from : ℕ) (t : Lookahead) (st : State) (ts : List Lookahead) (ls : List Leaf) (h g : State → Option Outcome)
       → may_follow r first from st ≡ follows → Here-of t ts ls h → New-of t h → row_of s t.class t.newline_before ≡ Some r → Sound t.class (Want s first from ∷ st.stack) st → K (Want s first from ∷ st.stack) (t ∷ ts)
@@ -340,10 +348,10 @@ module _ (m : Maker) (maker : IsMaker m) (K : List Frame → List Lookahead → 
   row_taken true follows r s first from t st ts ls h g may here new is sound k e = stopped_not (TooDeep t.at) all e
   row_taken false false r s first from t st ts ls h g may here new is sound k e = stopped_not (Syntax t.at) all e
   row_taken false true r s first from t st ts ls h g may here new is sound k e =
-      let ok = ok_at s t.class t.newline_before r is (λ n. new (with_row r t.class st) t.class st.taken _ (sym (ap (λ r. (with_row r t.class st).stack) (new_row s t.class t.newline_before r n is))) e) in
+      let ok = ok_at s t.class t.newline_before r is (λ n. new (with_row r t.class st) (terminals.One classes.New) t.class st.taken _ (sym (ap (λ r. (with_row r t.class st).stack) (new_row s t.class t.newline_before r n is))) e) in
       let f = row_facts s first from t.class t.newline_before r st ok sound in
       let facts : Sound t.class (with_row r t.class st).stack (with_row r t.class st) = record { chain = f.chain; linked = f.linked; late = f.late; closed = f.closed } in
-      let rest = here (with_row r t.class st) facts (closes.row s first from st.taken st.stack t ts r (is_marked r) is k) e in
+      let rest = here (with_row r t.class st) facts (closes.row s first from st.taken st.stack t ts r (is_marked r) is (λ n. new (with_row r t.class st) (terminals.One classes.Function) t.class st.taken _ (sym (ap (λ r. (with_row r t.class st).stack) (function_row s t.class t.newline_before r n is))) e) k) e in
       (Row r ∷ rest.0, rest.1 ∙ one_then st.events rest.0 (Row r), row_made m maker s first from t ts ls r st rest.0 is ok may sound rest.2)
 
   row_used : (o : Option RowId) (s : Symbol) (first : Class) (from : ℕ) (t : Lookahead) (st : State) (ts : List Lookahead) (ls : List Leaf) (h g : State → Option Outcome)
@@ -408,11 +416,11 @@ module _ (m : Maker) (maker : IsMaker m) (K : List Frame → List Lookahead → 
       kind_used (kind_of s) s first from t (record st { stack = fs }) ts l ls h g here new next leaf refl facts k e
 
   new_token : (n over : ℕ) (t : Lookahead) (ts : List Lookahead) → New-of t (run n over (t ∷ ts))
-  new_token zero over t ts st first from fs is e = cc
-  new_token (suc n) over t ts st first from fs is e =
-      one_taken (takes_class (terminals.One classes.New) t.class) refl (subst (λ f. go_on (act_on f t st) (run n over (t ∷ ts)) (run n over ts) ≡ Some (Accepted all)) is e)
+  new_token zero over t ts st x first from fs is e = cc
+  new_token (suc n) over t ts st x first from fs is e =
+      one_taken (takes_class x t.class) refl (subst (λ f. go_on (act_on f t st) (run n over (t ∷ ts)) (run n over ts) ≡ Some (Accepted all)) is e)
     where
-      one_taken : (b : Bool) → takes_class (terminals.One classes.New) t.class ≡ b → go_on (use_token b (symbols.Take (terminals.One classes.New)) from t (record st { stack = fs })) (run n over (t ∷ ts)) (run n over ts) ≡ Some (Accepted all) → takes_class (terminals.One classes.New) t.class ≡ true
+      one_taken : (b : Bool) → takes_class x t.class ≡ b → go_on (use_token b (symbols.Take x) from t (record st { stack = fs })) (run n over (t ∷ ts)) (run n over ts) ≡ Some (Accepted all) → takes_class x t.class ≡ true
       one_taken true is e = is
       one_taken false is e = stopped_not _ all e
 

@@ -6,6 +6,7 @@ pub mod EachRow
 pub mod Filling
 pub mod Finishing
 pub mod Gathers
+pub mod Heads
 pub mod Roles
 pub mod Rowwise
 pub mod Runs

@@ -125,7 +125,7 @@ accepted_tree m maker K closes zero over (t ∷ ts) ls all leaves k e = cc
 accepted_tree m maker K closes (suc n) over (t ∷ ts) ls all leaves k e =
     let rest : Builds m (with_row rows.Script t.class (record start { stack = [] })).stack (with_row rows.Script t.class (record start { stack = [] })) (t ∷ ts) ls all =
         builds m maker K closes all n over (t ∷ ts) ls (with_row rows.Script t.class (record start { stack = [] })) leaves (λ c u us same is. let now : t.class ≡ c = let first : t ≡ u = cc in ap (λ t. t.class) first ∙ sym is in sound_begun t.class c now)
-        (closes.row symbols.Script classes.End 0 0 [] t ts rows.Script false refl k) e in
+        (closes.row symbols.Script classes.End 0 0 [] t ts rows.Script false refl (λ e. cc) k) e in
     subst (λ all. Safely (Is (unions.One kinds.Script)) (tree_of m ls all)) (sym rest.1) (tree_made m maker t.class t.newline_before ls rest.0 (rest.2 Anything tt (agree_begun t.class) []))
 
 -- both makers make the node of each kind whose fields fit
