@@ -7,6 +7,7 @@ pub mod Filling
 pub mod Finishing
 pub mod Gathers
 pub mod Heads
+pub mod Marks
 pub mod Roles
 pub mod Rowwise
 pub mod Runs
@@ -17,4 +18,5 @@ pub mod Specials
 pub mod StatementLists
 pub mod Suits
 pub mod Table
+pub mod Told
 pub mod Trees

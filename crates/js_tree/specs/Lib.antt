@@ -8,3 +8,4 @@ pub mod Results
 pub mod Runs
 pub mod Statements
 pub mod Steps
+pub mod Tells

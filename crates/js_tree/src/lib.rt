@@ -4,6 +4,7 @@
 mod build;
 mod fault;
 mod finishes;
+mod laws;
 mod leaf;
 mod nodes;
 mod operators;
@@ -18,4 +19,5 @@ mod work;
 
 pub use build::build_tree;
 pub use fault::Fault;
+pub use laws::accepted_have_trees;
 pub use leaf::Leaf;
