@@ -13,6 +13,7 @@ pub mod Rowwise
 pub mod Runs
 pub mod Safe
 pub mod Shapes
+pub mod Small
 pub mod Sorts
 pub mod Specials
 pub mod StatementLists

@@ -30,8 +30,9 @@ use Rattle.js_tree.specs.Operators.{operator, mark_choice, word_choice}
 use Rattle.js_tree.specs.declared.fault.Fault.{Fault}
 use Rattle.js_tree.specs.declared.fault.Fault.TheVariants as faults
 use Rattle.js_tree.specs.declared.leaf.Leaf.{Leaf}
-use Rattle.js_tree.specs.Tells.{has_text, is_small, Tells, LeavesTell, IsScriptOrDeep, AcceptedHaveTrees}
+use Rattle.js_tree.specs.Tells.{has_text, Tells, LeavesTell, IsScriptOrDeep, AcceptedHaveTrees}
 use Rattle.js_tree.proofs.Sorts.{LeafIs, IsTold, IsNumber, IsOperator, tells_text, is_number, is_operator, Safely, Is}
+use Rattle.js_tree.proofs.Small.{is_small, AreSmall, tokens_small}
 use Rattle.js_tree.proofs.Accepted.{LeavesAre}
 use Rattle.js_tree.proofs.Heads.{Marked, Waits, heads_close}
 use Rattle.js_tree.proofs.Marks.{identifier_class, tokens_marked}
@@ -144,18 +145,18 @@ operators_told text t tokens.Text e is = text_set e is
 operators_told text t (tokens.Template p) e is = piece_set e p is
 operators_told text t tokens.End e is = end_set e is
 
-leaf_is : (text : List ℕ) (t : Token) (l : Leaf) → Tells t l → LeafIs (class_in text t) l
-leaf_is text t l tells = record {
+leaf_is : (text : List ℕ) (t : Token) (l : Leaf) → Tells t l → is_small t.kind ≡ true → LeafIs (class_in text t) l
+leaf_is text t l tells small = record {
   told = λ e. tells.text (texts_told text t t.kind e);
-  counts = λ e. let n = numbers_told text t t.kind e tells.small in (n.0, tells.kind ∙ n.1, n.2);
+  counts = λ e. let n = numbers_told text t t.kind e small in (n.0, tells.kind ∙ n.1, n.2);
   operates = λ s e. let n = operators_told text t t.kind s e in (n.0, ap (operator s) tells.kind ∙ n.1, n.2);
 }
 
-leaves_are : (text : List ℕ) (ts : List Token) (ls : List Leaf) → LeavesTell ts ls → LeavesAre (seen text ts) ls
-leaves_are text [] [] tell = tt
-leaves_are text [] (l ∷ ls) tell = tell
-leaves_are text (t ∷ ts) [] tell = tell
-leaves_are text (t ∷ ts) (l ∷ ls) tell = (leaf_is text t l tell.0, leaves_are text ts ls tell.1)
+leaves_are : (text : List ℕ) (ts : List Token) (ls : List Leaf) → LeavesTell ts ls → AreSmall ts → LeavesAre (seen text ts) ls
+leaves_are text [] [] tell small = tt
+leaves_are text [] (l ∷ ls) tell small = tell
+leaves_are text (t ∷ ts) [] tell small = tell
+leaves_are text (t ∷ ts) (l ∷ ls) tell small = (leaf_is text t l tell.0 small.0, leaves_are text ts ls tell.1 small.1)
 
 script_or_deep : (r : Result Tree Fault) → Safely (Is (unions.One kinds.Script)) r → IsScriptOrDeep r
 script_or_deep (Ok t) is = is
@@ -166,5 +167,5 @@ script_or_deep (Err faults.Memory) is = is
 pub accepted_have_trees : AcceptedHaveTrees
 accepted_have_trees text ts ls events are tell ends =
     script_or_deep (tree_of limited ls events)
-    (accepted_tree limited limited_makes Waits heads_close ends.0 (length text) (seen text ts) ls events (leaves_are text ts ls tell)
+    (accepted_tree limited limited_makes Waits heads_close ends.0 (length text) (seen text ts) ls events (leaves_are text ts ls tell (subst AreSmall (sym are.1.1) (tokens_small text are.0 are.1.0)))
     (tt, subst (λ ts. Marked (seen text ts)) (sym are.1.1) (tokens_marked text are.0)) ends.1)

@@ -1,5 +1,5 @@
 -- What a leaf tells of its token.
-use Rattle.std.specs.Prelude.{◌≡◌, ℕ, ◌^◌, Bool, true, false, List, [], ◌∷◌, Option, Some, Result, Ok, Err, nat_lt}
+use Rattle.std.specs.Prelude.{◌≡◌, ℕ, Bool, true, false, List, [], ◌∷◌, Some, Result, Ok, Err}
 use Rattle.bast_base.specs.declared.errors.NameId.{NameId}
 use Rattle.bast_schema.specs.declared.kind.FieldType.TheVariants as field
 use Rattle.bast_schema.specs.declared.kind.Kind.TheVariants as kinds
@@ -27,15 +27,9 @@ has_text tokens.Text = true
 has_text (tokens.Template piece) = true
 has_text tokens.End = false
 
--- a number is below 2^53
-abbrev pub is_small : TokenKind → Bool
-is_small (tokens.Number n) = nat_lt n (2 ^ 53)
-is_small _ = true
-
 pub record Tells (t : Token) (l : Leaf) : Type 0 where
   pub kind : l.kind ≡ t.kind
   pub text : has_text t.kind ≡ true → (n : NameId) × (l.text ≡ Some n)
-  pub small : is_small t.kind ≡ true
 
 -- one leaf for each token, in their order
 abbrev pub LeavesTell : List Token → List Leaf → Type 0
