@@ -1,9 +1,9 @@
 -- What the machine accepts has a tree: what is left of a run makes parts that suit the stack.
-use Rattle.std.proofs.Common.{◌≡◌, ℕ, zero, suc, ◌+◌, ◌≤◌, ◌<◌, Bool, true, false, not, cond, ◌&&◌, ◌||◌, ◌⊎◌, inl, inr, List, [], ◌∷◌, ◌++◌, map, reverse, Option, Some, None, Result, Ok, Err, refl, sym, ap, ◌∙◌, subst, arith, append_assoc}
+use Rattle.std.proofs.Common.{◌≡◌, ℕ, zero, suc, ◌≤◌, ◌<◌, Bool, true, false, not, cond, ◌&&◌, ◌||◌, inl, inr, List, [], ◌∷◌, ◌++◌, reverse, Option, Some, None, Ok, refl, sym, ap, ◌∙◌, subst, arith, append_assoc}
 use Rattle.std.proofs.lemmas.List.{reverse-append}
 use Rattle.std.specs.Prelude.{◌==◌}
 use Rattle.std.specs.List.{list_all}
-use Rattle.std.proofs.lemmas.Bool.{eq-eqb, eqb-true}
+use Rattle.std.proofs.lemmas.Bool.{eqb-true}
 use Rattle.js_grammar.specs.declared.class.Class.{Class}
 use Rattle.js_grammar.specs.declared.class.Class.TheVariants as classes
 use Rattle.js_grammar.specs.declared.symbols.Terminal.{Terminal}
@@ -25,21 +25,19 @@ use Rattle.js_machine.specs.declared.stops.Stop.{Stop}
 use Rattle.js_machine.specs.declared.stops.Stop.TheVariants.{Syntax, TooDeep}
 use Rattle.js_machine.specs.declared.lookahead.Lookahead.{Lookahead}
 use Rattle.js_machine.specs.Left.{is_behind}
-use Rattle.js_machine.specs.Machine.{State, Stay, Halt, Outcome, Accepted, Stopped, start, act_on, go_on, run, finish, use_kind, use_row, use_token, kind_of, counts_as_there, want_all, under_mark, with_row, with_token, is_too_deep, may_follow, is_one_identifier, is_one_head, stuck}
+use Rattle.js_machine.specs.Machine.{State, Stay, Halt, Outcome, Accepted, Stopped, act_on, go_on, run, finish, use_kind, use_row, use_token, kind_of, counts_as_there, want_all, under_mark, with_row, with_token, is_too_deep, may_follow, is_one_identifier, is_one_head, stuck}
 use Rattle.js_machine.proofs.Work.{vanishes}
-use Rattle.js_tree.specs.Image.{Built, image, event_part, leaf_part, row_part}
+use Rattle.js_tree.specs.Image.{image, event_part, leaf_part, row_part}
 use Rattle.js_tree.specs.Nodes.{Maker}
 use Rattle.js_tree.specs.Results.{◌>>=◌}
-use Rattle.js_tree.specs.declared.fault.Fault.{Fault}
 use Rattle.js_tree.specs.declared.leaf.Leaf.{Leaf}
 use Rattle.js_tree.specs.declared.parts.Part.{Part}
-use Rattle.js_tree.specs.declared.parts.Part.TheVariants as parts
 use Rattle.js_tree.proofs.Sorts.{IsMaker, Safely, LeafIs}
-use Rattle.js_tree.proofs.Shapes.{and_left, and_right, both, either, three}
+use Rattle.js_tree.proofs.Shapes.{and_left, and_right, either, three}
 use Rattle.js_tree.proofs.Safe.{safely_bind, same_classes}
-use Rattle.js_tree.proofs.Suits.{Left, Anything, NameAt, HeadAt, is_name, is_head, after, after_by, From, StandsAt, NameStandsAt, SuitsAt, Suits, Chain, is_late, OpenAt, Open, passes_head, is_ready, in_chain, is_new, Linked}
+use Rattle.js_tree.proofs.Suits.{Left, NameAt, HeadAt, is_name, is_head, after, after_by, StandsAt, NameStandsAt, Suits, Chain, is_late, OpenAt, Open, passes_head, is_ready, in_chain, is_new, Linked}
 use Rattle.js_tree.proofs.Apart.{open_under, all_open, from_after}
-use Rattle.js_tree.proofs.Rowwise.{leads, leads_true, not_arrow, class_ok, OnArrow, Followed, Here}
+use Rattle.js_tree.proofs.Rowwise.{leads, leads_true, class_ok, OnArrow, Followed, Here}
 use Rattle.js_tree.proofs.EachRow.{row_goal, row_linked, row_guarded, row_ok, ok_at}
 
 -- what the tokens that are left tell
@@ -222,8 +220,8 @@ row_made m maker s first from t ts ls r st more is ok may sound made = λ o arro
     safely_bind (λ x. (x.0 ≡ back) × Suits m (with_row r t.class st).stack o x.1) (λ x. (x.0 ≡ back) × Suits m (Want s first from ∷ st.stack) o x.1) (image m (reverse ls ++ back) more) (event_part m (Row r))
     (made o arrow (agree_push t.class st.taken st.before st.row_from o (row_symbols r) rest sound.closed (agree_mark st.taken st.before st.row_from o (is_marked r) st.stack agree.2)) back)
     (λ x suits. safely_bind (Suits m (Want s first from ∷ rest) o) (λ x. (x.0 ≡ back) × Suits m (Want s first from ∷ st.stack) o x.1) (row_part m r x.1) (λ ps. Ok (x.0, ps))
-        (row_goal m maker s t.class t.newline_before r is t.class st.taken t.newline_before first from rest o x.1 here suits.1)
-        (λ ps good. (suits.0, unmark m s first from (is_marked r) st.stack o ps good)))
+    (row_goal m maker s t.class t.newline_before r is t.class st.taken t.newline_before first from rest o x.1 here suits.1)
+    (λ ps good. (suits.0, unmark m s first from (is_marked r) st.stack o ps good)))
 
 -- a token
 or_none : (b : Bool) → (b || false) ≡ true → b ≡ true

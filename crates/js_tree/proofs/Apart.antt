@@ -1,29 +1,26 @@
 -- What a row leaves of parts that suit its symbols suits its own symbol.
-use Rattle.std.proofs.Common.{◌≡◌, ℕ, zero, suc, ◌+◌, ◌≤◌, ◌<◌, Bool, true, false, not, ◌&&◌, ◌||◌, ◌⊎◌, inl, inr, List, [], ◌∷◌, ◌++◌, map, Option, Some, None, refl, sym, ap, ◌∙◌, subst, arith}
+use Rattle.std.proofs.Common.{◌≡◌, ℕ, suc, ◌≤◌, ◌<◌, Bool, true, false, not, ◌&&◌, ◌||◌, ◌⊎◌, inl, inr, List, [], ◌∷◌, ◌++◌, map, refl, sym, ap, ◌∙◌, subst, arith}
 use Rattle.std.specs.List.{list_all}
 use Rattle.bast_schema.specs.declared.kind.FieldType.TheVariants as field
-use Rattle.bast_schema.specs.declared.kind.Kind.TheVariants as kinds
 use Rattle.bast_schema.specs.declared.kind.Union.TheVariants as unions
-use Rattle.bast_schema.specs.Tree.{child, none, more}
+use Rattle.bast_schema.specs.Tree.{none, more}
 use Rattle.js_grammar.specs.declared.class.Class.{Class}
 use Rattle.js_grammar.specs.declared.class.Class.TheVariants as classes
 use Rattle.js_grammar.specs.declared.symbols.Terminal.{Terminal}
 use Rattle.js_grammar.specs.declared.symbols.Symbol.{Symbol}
-use Rattle.js_grammar.specs.declared.symbols.Symbol.TheVariants as symbols
-use Rattle.js_grammar.specs.declared.symbols.RowId.{RowId}
 use Rattle.js_grammar.specs.Classes.{takes_class}
 use Rattle.js_machine.specs.declared.events.Frame.{Frame}
 use Rattle.js_machine.specs.declared.events.Frame.TheVariants.{Want, EndMark}
-use Rattle.js_machine.specs.Machine.{want_all, under_mark}
+use Rattle.js_machine.specs.Machine.{want_all}
 use Rattle.js_machine.proofs.Work.{vanishes}
 use Rattle.js_tree.specs.Nodes.{Maker}
 use Rattle.js_tree.specs.declared.parts.Part.{Part}
 use Rattle.js_tree.specs.declared.parts.Part.TheVariants as parts
-use Rattle.js_tree.proofs.Sorts.{Turns, NoTail, OneName, Head, PartSort, Token, Endings, PartIs}
+use Rattle.js_tree.proofs.Sorts.{PartSort, Token, PartIs}
 use Rattle.js_tree.proofs.Shapes.{and_left, and_right}
 use Rattle.js_tree.proofs.Gathers.{PartsAre}
 use Rattle.js_tree.proofs.Table.{part_of, one_node, operators, many}
-use Rattle.js_tree.proofs.Suits.{Left, Anything, NameAt, HeadAt, NoHead, is_name, is_head, after, after_by, From, StandsAt, NameStandsAt, PartIsNamed, OperandIs, NoEndings, NoValues, Role, IsToken, Passes, PassesAny, Commas, Arrows, Labels, Operand, HeadOperand, Plain, role_of, Goes, SuitsAt, Suits, Chain, is_late, OpenAt, Open, passes, hands_head, passes_head, is_ready, in_chain, is_new, Linked}
+use Rattle.js_tree.proofs.Suits.{Left, Anything, NameAt, HeadAt, NoHead, is_name, is_head, after, after_by, From, StandsAt, NameStandsAt, OperandIs, NoEndings, NoValues, Role, IsToken, Passes, PassesAny, Commas, Arrows, Labels, Operand, HeadOperand, Plain, role_of, Goes, SuitsAt, Suits, Chain, is_late, OpenAt, Open, passes, hands_head, is_ready, in_chain, is_new, Linked}
 use Rattle.js_tree.proofs.Roles.{vanishing_passes, vanishing_any, vanishing_commas, late_arrows, late_labels, token_part, passing_part, any_part, comma_part, operand_part, head_part}
 
 -- an operand of the number n or a later one
@@ -197,6 +194,6 @@ taken_apart m c n fs [] o ps ok chain linked is = (o, ps, refl, inl (refl, refl)
 taken_apart m c n fs (s ∷ ss) o [] ok chain linked is = absurd is
 taken_apart m c n fs (s ∷ ss) o (p ∷ ps) ok chain linked is =
     let here = apart_at m (role_of s) s c n o p (λ x. Suits m (want_all c n ss ++ fs) x ps) refl (and_left _ (all_apart c ss) ok)
-        (λ hands k less x. no_head m (suc n) k (want_all c n ss ++ fs) ps (linked.0 (in_chain_passes s (role_of s) refl hands)) linked.1 (all_open c n (suc n) (want_all c n ss ++ fs) chain.2 (omega arith)) less x) is in
+    (λ hands k less x. no_head m (suc n) k (want_all c n ss ++ fs) ps (linked.0 (in_chain_passes s (role_of s) refl hands)) linked.1 (all_open c n (suc n) (want_all c n ss ++ fs) chain.2 (omega arith)) less x) is in
     let rest = taken_apart m c n fs ss here.0 ps (and_right (apart_role c (role_of s)) (all_apart c ss) ok) chain.2 linked.1 here.3 in
     (rest.0, rest.1, (here.2, rest.2), joined_left (vanishes s) (list_all vanishes ss) c n o here.0 rest.0 here.1 rest.3, rest.4)

@@ -1,40 +1,27 @@
 -- What a row's own part may be, found from what it has gathered.
-use Rattle.std.proofs.Common.{◌≡◌, ℕ, Bool, true, false, not, ◌&&◌, ◌||◌, ◌⊎◌, inl, inr, List, [], ◌∷◌, ◌++◌, Option, Some, None, Result, Ok, Err, refl, sym, ap, ◌∙◌, subst, length}
+use Rattle.std.proofs.Common.{◌≡◌, Bool, true, false, ◌&&◌, ◌||◌, inl, List, [], ◌∷◌, ◌++◌, Ok, refl, sym, ap, subst, length}
 use Rattle.std.specs.Prelude.{◌==◌}
-use Rattle.std.proofs.lemmas.Bool.{eq-eqb, eqb-true}
-use lib.Dec.{eqb}
-use Rattle.bast_base.specs.declared.errors.NameId.{NameId}
+use Rattle.std.proofs.lemmas.Bool.{eq-eqb}
 use Rattle.bast_schema.specs.declared.kind.FieldType.{FieldType}
 use Rattle.bast_schema.specs.declared.kind.FieldType.TheVariants as field
 use Rattle.bast_schema.specs.declared.kind.Kind.{Kind}
-use Rattle.bast_schema.specs.declared.kind.Kind.TheVariants as kinds
 use Rattle.bast_schema.specs.declared.kind.Union.{Union}
 use Rattle.bast_schema.specs.declared.kind.Union.TheVariants as unions
 use Rattle.bast_schema.specs.Fields.{fields}
 use Rattle.bast_schema.specs.Kinds.{same_kind, number}
 use Rattle.bast_schema.specs.Counts.{join}
-use Rattle.bast_schema.specs.Tree.{Tree, branch, Datum, child, absent, listed, flag, whole, name, no_name, choice, Data, none, more, kind_of, typed, fits, fit, items_fit, is_none, count}
-use Rattle.bast_schema.specs.Unions.{allowed}
-use Rattle.js_tree.specs.Finishes.{Finished, finish_on, with_values, with_made, with_endings, ends, folds, statement, shorthand, property, filled, fills, for_kind, declaration, left_of, bound, binds, declaring, declares, arrow_body, try_kind, tries, sequence, instead, add_item, is_default, before_default, from_default, switch_of, switch, parameters}
-use Rattle.js_tree.specs.Nodes.{Maker, one, two, no_names, no_parameter_names, identifier, one_parameter, parameters_or, parameters_of, contents_of, stands, ended, folded}
-use Rattle.js_tree.specs.Parts.{first_value, one_value, one_node, one_ending, last_value, last_behind}
-use Rattle.js_tree.specs.Results.{◌>>=◌, there}
-use Rattle.js_tree.specs.declared.fault.Fault.{Fault}
+use Rattle.bast_schema.specs.Tree.{Tree, Datum, child, Data, more, fit}
+use Rattle.js_tree.specs.Finishes.{Finished}
+use Rattle.js_tree.specs.Nodes.{Maker, stands, ended, folded}
 use Rattle.js_tree.specs.declared.parts.Part.{Part}
 use Rattle.js_tree.specs.declared.parts.Part.TheVariants as parts
 use Rattle.js_tree.specs.declared.parts.Form.{Form}
 use Rattle.js_tree.specs.declared.parts.Form.TheVariants as forms
 use Rattle.js_tree.specs.declared.parts.Ending.{Ending}
 use Rattle.js_tree.specs.declared.parts.Ending.TheVariants as endings
-use Rattle.js_tree.specs.declared.parts.Item.{Item}
-use Rattle.js_tree.specs.declared.recipe.Declared.{Declared}
-use Rattle.js_tree.specs.declared.recipe.Declared.TheVariants as declared
-use Rattle.js_tree.specs.declared.recipe.Finish.{Finish}
-use Rattle.js_tree.specs.declared.recipe.Finish.TheVariants as finishes
-use Rattle.js_tree.specs.declared.work.Work.{Work}
-use Rattle.js_tree.proofs.Sorts.{Sort, Of, Missing, Empty, Fits, Rest, Nothing, Many, Maybe, Clauses, Parameters, RestIs, Holds, Tail, NoTail, Turns, Names, Fills, Binds, Any, OneName, Head, IsNamed, PartSort, Token, Semicolon, Values, Endings, Items, PartIs, AreEndings, AreItems, Is, IsMaker, Safely, TurnsTo, IsOperand, Operand, CanFill, Filling, Binding, OneOf, declarators, within, suits, suit, shape_within, sorts_of, case, default, parameter, last_parameter}
-use Rattle.js_tree.proofs.Shapes.{and_left, and_right, both, either, joined, suits_sound, suit_sound, shape_sound, within_allowed}
-use Rattle.js_tree.proofs.Gathers.{Shape, WorkIs, PartsAre, a_node, all_directives, all_statements}
+use Rattle.js_tree.proofs.Sorts.{Sort, Of, Fits, Rest, Nothing, Holds, Tail, NoTail, Turns, Names, Fills, Any, OneName, Head, PartSort, Values, Endings, Items, PartIs, AreEndings, Is, IsMaker, Safely, TurnsTo, IsOperand, Operand, Filling, OneOf, within, suits, suit, shape_within, sorts_of}
+use Rattle.js_tree.proofs.Shapes.{and_left, and_right, joined, suits_sound, suit_sound, shape_sound}
+use Rattle.js_tree.proofs.Gathers.{PartsAre}
 use Rattle.js_tree.proofs.Safe.{safely_bind, safely_map, widened, made_in}
 
 -- the row's own part is of the sort, above those parts

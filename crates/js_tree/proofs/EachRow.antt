@@ -1,69 +1,28 @@
 -- Each row of each symbol leaves what suits its symbol.
-use Rattle.std.proofs.Common.{◌≡◌, ℕ, zero, suc, ◌+◌, ◌≤◌, ◌<◌, Bool, true, false, not, ◌&&◌, ◌||◌, ◌⊎◌, inl, inr, List, [], ◌∷◌, ◌++◌, map, Option, Some, None, refl, sym, ap, ◌∙◌, subst, arith}
+use Rattle.std.proofs.Common.{◌≡◌, ℕ, zero, suc, ◌<◌, Bool, true, false, not, ◌&&◌, ◌||◌, List, [], ◌∷◌, Option, Some, None, refl, ap, subst, arith}
 use Rattle.std.specs.List.{list_all}
-use Rattle.bast_schema.specs.declared.kind.FieldType.TheVariants as field
-use Rattle.bast_schema.specs.declared.kind.Kind.TheVariants as kinds
-use Rattle.bast_schema.specs.declared.kind.Union.TheVariants as unions
-use Rattle.bast_schema.specs.Tree.{child, none, more}
 use Rattle.js_grammar.specs.declared.class.Class.{Class}
 use Rattle.js_grammar.specs.declared.class.Class.TheVariants as classes
-use Rattle.js_grammar.specs.declared.symbols.Terminal.{Terminal}
 use Rattle.js_grammar.specs.declared.symbols.Symbol.{Symbol}
 use Rattle.js_grammar.specs.declared.symbols.Symbol.TheVariants as symbols
 use Rattle.js_grammar.specs.declared.symbols.RowId.{RowId}
 use Rattle.js_grammar.specs.Classes.{takes_class}
-use Rattle.js_machine.specs.declared.events.Frame.{Frame}
-use Rattle.js_machine.specs.declared.events.Frame.TheVariants.{Want, EndMark}
-use Rattle.js_machine.specs.Machine.{want_all, under_mark}
 use Rattle.js_machine.proofs.Work.{vanishes}
 use Rattle.js_tree.specs.Nodes.{Maker}
-use Rattle.js_tree.specs.declared.parts.Part.{Part}
-use Rattle.js_tree.specs.declared.parts.Part.TheVariants as parts
-use Rattle.js_tree.proofs.Sorts.{Turns, NoTail, OneName, Head, PartSort, Token, Endings, PartIs}
 use Rattle.js_tree.proofs.Shapes.{and_left, and_right}
-use Rattle.js_tree.proofs.Gathers.{PartsAre}
-use Rattle.js_tree.proofs.Table.{part_of, one_node, operators, many}
-use Rattle.js_tree.proofs.Suits.{Left, Anything, NameAt, HeadAt, NoHead, is_name, is_head, after, after_by, From, StandsAt, NameStandsAt, PartIsNamed, OperandIs, NoEndings, NoValues, Role, IsToken, Passes, PassesAny, Commas, Arrows, Labels, Operand, HeadOperand, Plain, role_of, Goes, SuitsAt, Suits, Chain, is_late, OpenAt, Open, passes, hands_head, passes_head, is_ready, in_chain, is_new, Linked}
-use Rattle.js_tree.proofs.Roles.{vanishing_passes, vanishing_any, vanishing_commas, late_arrows, late_labels, token_part, passing_part, any_part, comma_part, operand_part, head_part}
-use Rattle.std.proofs.Common.{length, get_or, Result, Ok, Err, cond}
-use Rattle.std.specs.Prelude.{◌==◌}
-use Rattle.std.specs.List.{Contains}
-use Rattle.bast_base.specs.declared.errors.NameId.{NameId}
-use Rattle.bast_schema.specs.Tree.{Tree, branch, Data, name}
-use Rattle.bast_schema.specs.declared.kind.Union.{Union}
+use Rattle.js_tree.proofs.Suits.{is_late, passes_head, in_chain, is_new}
+use Rattle.std.proofs.Common.{length, get_or}
 use Rattle.js_grammar.specs.declared.symbols.Level.{Level}
 use Rattle.js_grammar.specs.declared.symbols.Level.TheVariants as levels
 use Rattle.js_grammar.specs.declared.symbols.Mode.{Mode}
 use Rattle.js_grammar.specs.declared.symbols.RowId.TheVariants as rows
-use Rattle.js_grammar.specs.Classes.{is_among}
 use Rattle.js_grammar.specs.Choice.{row_of}
-use Rattle.js_grammar.specs.Rows.{row_symbols, alternatives, next_level}
-use Rattle.js_tree.specs.Image.{row_part}
-use Rattle.js_tree.specs.Finishes.{Finished, folds, statement, sequence, with_values, with_made}
-use Rattle.js_tree.specs.Nodes.{folded, one}
-use Rattle.js_tree.specs.Parts.{one_node as node_of_one}
-use Rattle.js_tree.specs.Results.{◌>>=◌, there}
-use Rattle.js_tree.specs.Steps.{operand, put, tail, named, hold}
-use Rattle.js_tree.specs.declared.fault.Fault.{Fault}
-use Rattle.js_tree.specs.declared.fault.Fault.TheVariants as faults
-use Rattle.js_tree.specs.declared.leaf.Leaf.{Leaf}
-use Rattle.js_tree.specs.declared.parts.Ending.{Ending}
-use Rattle.js_tree.proofs.Sorts.{IsMaker, Safely, Is, IsOperand, TurnsTo, IsNamed, Values, Nothing, LeafIs}
-use Rattle.js_tree.proofs.Shapes.{both, three}
-use Rattle.js_tree.proofs.Safe.{safely_map, safely_bind, made_in, widened, taken_is}
-use Rattle.js_tree.proofs.Closing.{Makes, on_top}
-use Rattle.js_tree.proofs.Finishing.{folded_one, fold_of}
-use Rattle.js_tree.proofs.Filling.{row_fits, row_sound}
-use Rattle.js_tree.proofs.Table.{row_parts, head_fits, label_fits}
-use Rattle.js_tree.proofs.Apart.{AtLeast, open_under, open_late, forget, no_head, all_open, from_after, no_endings, no_values, operand_is, apart_role, all_apart, TakenApart, taken_apart}
-use Rattle.js_grammar.specs.Classes.{classes_of, same_class}
+use Rattle.js_grammar.specs.Rows.{row_symbols, alternatives}
+use Rattle.js_tree.proofs.Sorts.{IsMaker}
+use Rattle.js_grammar.specs.Classes.{same_class}
 use Rattle.js_grammar.specs.declared.symbols.Terminal.TheVariants as terminals
-use Rattle.js_tree.specs.Steps.{with_value, no_work, gathered}
-use Rattle.js_tree.specs.Finishes.{finish_on}
-use Rattle.js_tree.specs.declared.recipe.Finish.TheVariants as finishes
-use Rattle.js_tree.proofs.Sorts.{tells_text}
 use Rattle.js_tree.proofs.Safe.{same_classes}
-use Rattle.js_tree.proofs.Rowwise.{leads, Goal, Here, from_back, from_least, put_on, class_ok, OnArrow, not_arrow}
+use Rattle.js_tree.proofs.Rowwise.{leads, Goal, class_ok}
 use Rattle.js_tree.proofs.Rowwise.{generic_row, generic_fit, generic_ok}
 use Rattle.js_tree.proofs.Specials.{lhs_tail_empty, member_tail_empty, post_empty, level_tail_empty, cond_tail_empty, comma_empty, assign_tail_empty, new_args_empty, again, cond_row, unary_row, lhs_row, callee_row, level_row, expr_row, assign_row, stat_row, ident_row, head_row, arrow_row, label_row}
 use Rattle.js_grammar.specs.declared.symbols.Mode.TheVariants as modes
@@ -221,6 +180,7 @@ new_ok c newline e = ap (λ c. row_ok symbols.New c newline rows.New) (only_clas
     or_none : (b : Bool) → (b || false) ≡ true → b ≡ true
     or_none true e = refl
     or_none false e = e
+
     only_class : (c k : Class) → takes_class (terminals.One k) c ≡ true → c ≡ k
     only_class c k e = same_classes c k (or_none (same_class c k) e)
 

@@ -1,7 +1,5 @@
 -- Why each finish of a recipe leaves what is found for it.
-use Rattle.std.proofs.Common.{◌≡◌, ℕ, Bool, true, false, not, ◌&&◌, ◌||◌, ◌⊎◌, inl, inr, List, [], ◌∷◌, ◌++◌, Option, Some, None, Result, Ok, Err, refl, sym, ap, ◌∙◌, subst, length, cond}
-use Rattle.std.specs.Prelude.{◌==◌}
-use Rattle.std.proofs.lemmas.Bool.{eq-eqb, eqb-true}
+use Rattle.std.proofs.Common.{◌≡◌, Bool, true, false, ◌&&◌, inl, inr, List, [], ◌∷◌, Option, Some, None, Ok, Err, refl, sym, ap, subst, cond}
 use lib.Dec.{eqb}
 use Rattle.bast_base.specs.declared.errors.NameId.{NameId}
 use Rattle.bast_schema.specs.declared.kind.FieldType.{FieldType}
@@ -11,40 +9,33 @@ use Rattle.bast_schema.specs.declared.kind.Kind.TheVariants as kinds
 use Rattle.bast_schema.specs.declared.kind.Union.{Union}
 use Rattle.bast_schema.specs.declared.kind.Union.TheVariants as unions
 use Rattle.bast_schema.specs.Fields.{fields}
-use Rattle.bast_schema.specs.Kinds.{same_kind, number}
+use Rattle.bast_schema.specs.Kinds.{number}
 use Rattle.bast_schema.specs.Counts.{join}
-use Rattle.bast_schema.specs.Tree.{Tree, branch, Datum, child, absent, listed, flag, whole, name, no_name, choice, Data, none, more, kind_of, typed, fits, fit, items_fit, is_none, count}
+use Rattle.bast_schema.specs.Tree.{Tree, branch, Datum, child, listed, choice, Data, none, more, fits, fit, items_fit, is_none}
 use Rattle.bast_schema.specs.Unions.{allowed}
-use Rattle.js_tree.specs.Finishes.{Finished, finish_on, with_values, with_made, with_endings, ends, folds, statement, shorthand, property, filled, fills, for_kind, declaration, left_of, bound, binds, declaring, declares, arrow_body, try_kind, tries, sequence, instead, add_item, is_default, before_default, from_default, switch_of, switch, parameters}
-use Rattle.js_tree.specs.Nodes.{Maker, one, two, no_names, no_parameter_names, identifier, one_parameter, parameters_or, parameters_of, contents_of, stands, ended, folded}
-use Rattle.js_tree.specs.Parts.{first_value, one_value, one_node, one_ending, last_value, last_behind}
-use Rattle.js_tree.specs.Results.{◌>>=◌, there}
-use Rattle.js_tree.specs.declared.fault.Fault.{Fault}
+use Rattle.js_tree.specs.Finishes.{Finished, finish_on, with_values, with_made, with_endings, ends, folds, statement, property, filled, fills, for_kind, declaration, left_of, bound, binds, declaring, declares, arrow_body, try_kind, tries, sequence, instead, add_item, is_default, before_default, from_default, switch_of, switch, parameters}
+use Rattle.js_tree.specs.Nodes.{Maker, one, two, ended}
+use Rattle.js_tree.specs.Parts.{one_value, one_node, one_ending, last_value, last_behind}
+use Rattle.js_tree.specs.Results.{◌>>=◌}
 use Rattle.js_tree.specs.declared.parts.Part.{Part}
 use Rattle.js_tree.specs.declared.parts.Part.TheVariants as parts
-use Rattle.js_tree.specs.declared.parts.Form.{Form}
 use Rattle.js_tree.specs.declared.parts.Form.TheVariants as forms
 use Rattle.js_tree.specs.declared.parts.Ending.{Ending}
 use Rattle.js_tree.specs.declared.parts.Ending.TheVariants as endings
-use Rattle.js_tree.specs.declared.parts.Item.{Item}
 use Rattle.js_tree.specs.declared.recipe.Declared.{Declared}
 use Rattle.js_tree.specs.declared.recipe.Declared.TheVariants as declared
 use Rattle.js_tree.specs.declared.recipe.Finish.{Finish}
 use Rattle.js_tree.specs.declared.recipe.Finish.TheVariants as finishes
 use Rattle.js_tree.specs.declared.work.Work.{Work}
-use Rattle.js_tree.proofs.Sorts.{Sort, Of, Missing, Empty, Fits, Rest, Nothing, Many, Maybe, Clauses, Parameters, RestIs, Holds, Tail, NoTail, Turns, Names, Fills, Binds, Any, OneName, Head, IsNamed, PartSort, Token, Semicolon, Values, Endings, Items, PartIs, AreEndings, AreItems, Is, IsMaker, Safely, TurnsTo, IsOperand, Operand, CanFill, Filling, Binding, OneOf, declarators, within, suits, suit, shape_within, sorts_of, case, default, parameter, last_parameter}
-use Rattle.js_tree.proofs.Shapes.{and_left, and_right, both, three, either, joined, suits_sound, suit_sound, shape_sound, within_allowed}
-use Rattle.js_tree.proofs.Gathers.{Shape, WorkIs, PartsAre, a_node, all_directives, all_statements}
+use Rattle.js_tree.proofs.Sorts.{Sort, Of, Rest, Nothing, Many, Maybe, Clauses, Parameters, RestIs, Holds, Tail, NoTail, Turns, Names, Fills, Binds, Any, PartSort, Values, Endings, Items, PartIs, AreEndings, Is, IsMaker, Safely, TurnsTo, Operand, Filling, Binding, declarators, within, suits, suit, shape_within, case, default, last_parameter}
+use Rattle.js_tree.proofs.Shapes.{and_left, and_right, both, three, suits_sound, suit_sound, shape_sound}
+use Rattle.js_tree.proofs.Gathers.{Shape, WorkIs, PartsAre, a_node}
 use Rattle.js_tree.proofs.Safe.{safely_bind, safely_map, widened, made_in}
-
-use Rattle.js_tree.proofs.Closing.{Makes, none_left, one_left, node_target, values_target, tail_target, items_target, turns_target, at_node, at_values, at_tail, at_items, at_turns, nothing_left, on_top, operand_within, operand_sound, tail_within, tail_sound, part_within, same_sound, tail_after, after_sound, around, held_around, plainly, self_within, some_none}
-
-
-use Rattle.js_tree.proofs.Finishing.{made_on_top, endings_on_top, exactly, holds_nothing, none_behind, other_kind, kind_is, is_nothing, is_no_tail, folds_fit, folds_sound, statement_fit, statement_sound, property_fit, property_sound, ends_fit, ends_sound, heads_fit, heads_sound, label_fit, label_sound, arrow_fit, arrow_sound}
+use Rattle.js_tree.proofs.Closing.{Makes, none_left, one_left, node_target, values_target, tail_target, items_target, turns_target, at_node, at_values, at_tail, at_items, at_turns, nothing_left, on_top, operand_within, operand_sound, tail_within, tail_sound, part_within, same_sound, after_sound, around, plainly}
+use Rattle.js_tree.proofs.Finishing.{made_on_top, endings_on_top, exactly, none_behind, other_kind, kind_is, is_nothing, is_no_tail, folds_fit, folds_sound, statement_fit, statement_sound, property_fit, property_sound, ends_fit, ends_sound, heads_fit, heads_sound, label_fit, label_sound, arrow_fit, arrow_sound}
 use Rattle.js_tree.specs.Recipes.{recipe}
 use Rattle.js_tree.specs.Image.{row_part}
 use Rattle.js_tree.specs.Steps.{no_work}
-use Rattle.js_tree.specs.declared.recipe.Step.{Step}
 use Rattle.js_tree.proofs.Gathers.{Checked, gathers, no_shape}
 use Rattle.js_tree.proofs.Safe.{Reached, gathered_sound}
 use Rattle.js_tree.specs.Steps.{Gathered}

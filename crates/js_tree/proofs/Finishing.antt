@@ -1,7 +1,7 @@
 -- Why what a row leaves is of the sort that is found for it.
-use Rattle.std.proofs.Common.{◌≡◌, ℕ, Bool, true, false, not, ◌&&◌, ◌||◌, ◌⊎◌, inl, inr, List, [], ◌∷◌, ◌++◌, Option, Some, None, Result, Ok, Err, refl, sym, ap, ◌∙◌, subst, length, cond}
+use Rattle.std.proofs.Common.{◌≡◌, ℕ, Bool, true, false, ◌&&◌, ◌||◌, inl, inr, List, [], ◌∷◌, ◌++◌, Option, None, Result, Ok, refl, sym, ap, ◌∙◌, subst, length, cond}
 use Rattle.std.specs.Prelude.{◌==◌}
-use Rattle.std.proofs.lemmas.Bool.{eq-eqb, eqb-true}
+use Rattle.std.proofs.lemmas.Bool.{eqb-true}
 use lib.Dec.{eqb}
 use Rattle.bast_base.specs.declared.errors.NameId.{NameId}
 use Rattle.bast_schema.specs.declared.kind.FieldType.{FieldType}
@@ -13,32 +13,24 @@ use Rattle.bast_schema.specs.declared.kind.Union.TheVariants as unions
 use Rattle.bast_schema.specs.Fields.{fields}
 use Rattle.bast_schema.specs.Kinds.{same_kind, number}
 use Rattle.bast_schema.specs.Counts.{join}
-use Rattle.bast_schema.specs.Tree.{Tree, branch, Datum, child, absent, listed, flag, whole, name, no_name, choice, Data, none, more, kind_of, typed, fits, fit, items_fit, is_none, count}
+use Rattle.bast_schema.specs.Tree.{Tree, branch, Datum, child, absent, listed, name, Data, none, more, kind_of, typed, fits, fit}
 use Rattle.bast_schema.specs.Unions.{allowed}
-use Rattle.js_tree.specs.Finishes.{Finished, finish_on, with_values, with_made, with_endings, ends, folds, statement, shorthand, property, filled, fills, for_kind, declaration, left_of, bound, binds, declaring, declares, arrow_body, try_kind, tries, sequence, instead, add_item, is_default, before_default, from_default, switch_of, switch, parameters}
-use Rattle.js_tree.specs.Nodes.{Maker, one, two, no_names, no_parameter_names, identifier, one_parameter, parameters_or, parameters_of, contents_of, stands, ended, folded}
-use Rattle.js_tree.specs.Parts.{first_value, one_value, one_node, one_ending, last_value, last_behind}
+use Rattle.js_tree.specs.Finishes.{Finished, with_values, with_made, with_endings, ends, folds, statement, shorthand, property, arrow_body}
+use Rattle.js_tree.specs.Nodes.{Maker, one, two, no_names, no_parameter_names, identifier, one_parameter, parameters_or, parameters_of, contents_of, stands, folded}
+use Rattle.js_tree.specs.Parts.{one_node}
 use Rattle.js_tree.specs.Results.{◌>>=◌, there}
 use Rattle.js_tree.specs.declared.fault.Fault.{Fault}
 use Rattle.js_tree.specs.declared.parts.Part.{Part}
 use Rattle.js_tree.specs.declared.parts.Part.TheVariants as parts
-use Rattle.js_tree.specs.declared.parts.Form.{Form}
 use Rattle.js_tree.specs.declared.parts.Form.TheVariants as forms
 use Rattle.js_tree.specs.declared.parts.Ending.{Ending}
 use Rattle.js_tree.specs.declared.parts.Ending.TheVariants as endings
-use Rattle.js_tree.specs.declared.parts.Item.{Item}
-use Rattle.js_tree.specs.declared.recipe.Declared.{Declared}
-use Rattle.js_tree.specs.declared.recipe.Declared.TheVariants as declared
-use Rattle.js_tree.specs.declared.recipe.Finish.{Finish}
-use Rattle.js_tree.specs.declared.recipe.Finish.TheVariants as finishes
 use Rattle.js_tree.specs.declared.work.Work.{Work}
-use Rattle.js_tree.proofs.Sorts.{Sort, Of, Missing, Empty, Fits, Rest, Nothing, Many, Maybe, Clauses, Parameters, RestIs, Holds, Tail, NoTail, Turns, Names, Fills, Binds, Any, OneName, Head, IsNamed, PartSort, Token, Semicolon, Values, Endings, Items, PartIs, AreEndings, AreItems, Is, IsMaker, Safely, TurnsTo, IsOperand, Operand, CanFill, Filling, Binding, OneOf, declarators, within, suits, suit, shape_within, sorts_of, case, default, parameter, last_parameter}
-use Rattle.js_tree.proofs.Shapes.{and_left, and_right, both, three, either, joined, suits_sound, suit_sound, shape_sound, within_allowed}
-use Rattle.js_tree.proofs.Gathers.{Shape, WorkIs, PartsAre, a_node, all_directives, all_statements}
+use Rattle.js_tree.proofs.Sorts.{Sort, Of, Fits, Rest, Nothing, Holds, Tail, NoTail, Turns, Names, Fills, Binds, Any, OneName, Head, Values, Endings, PartIs, AreEndings, Is, IsMaker, Safely, TurnsTo, IsOperand, Operand, CanFill, Filling, Binding, OneOf, within, suits, suit}
+use Rattle.js_tree.proofs.Shapes.{and_left, and_right, both, three, joined, suits_sound, suit_sound}
+use Rattle.js_tree.proofs.Gathers.{Shape, WorkIs, a_node, all_statements}
 use Rattle.js_tree.proofs.Safe.{safely_bind, safely_map, widened, made_in}
-
-use Rattle.js_tree.proofs.Closing.{Makes, none_left, one_left, node_target, values_target, tail_target, items_target, turns_target, at_node, at_values, at_tail, at_items, at_turns, nothing_left, on_top, operand_within, operand_sound, tail_within, tail_sound, part_within, same_sound, tail_after, after_sound, around, held_around, plainly, self_within, some_none}
-
+use Rattle.js_tree.proofs.Closing.{Makes, turns_target, at_turns, on_top, operand_within, operand_sound, tail_after, after_sound, around, held_around, plainly}
 
 none_of : (es : List Ending) → (length es == 0) ≡ true → es ≡ []
 none_of [] e = refl
@@ -193,11 +185,13 @@ holds_nothing ss _ ds e is = cc
 
 fill_can : (m : Maker) (a : Shape) (k : Kind) (s : FieldType) (w : Work) → fill_fit a k s ≡ true → WorkIs m a w → CanFill s k w.held w.values
 fill_can m a k s w fit_is is =
-    let h = three (is_nothing a.rest && is_no_tail a.tail) (suit ((a.held ++ Of s ∷ a.front) ++ body_behind) (fields k)) (within (unions.One k) unions.Body) fit_is in
-    (and_left (allowed unions.Body k) true h.2, λ d t e body.
-        suit_sound ((a.held ++ Of s ∷ a.front) ++ body_behind) (fields k) (join (join w.held (more d w.values)) (more (child t) none)) h.1
-        (joined (a.held ++ Of s ∷ a.front) body_behind Nothing (join w.held (more d w.values)) (more (child t) none)
-        (joined a.held (Of s ∷ a.front) Nothing w.held (more d w.values) is.held (e, holds_nothing a.front a.rest w.values (and_left (is_nothing a.rest) (is_no_tail a.tail) h.0) is.values)) (body, tt)))
+    let h = three (is_nothing a.rest && is_no_tail a.tail) (suit ((a.held ++ Of s ∷ a.front) ++ body_behind) (fields k)) (within (unions.One k) unions.Body) fit_is in (
+      and_left (allowed unions.Body k) true h.2,
+      λ d t e body.
+          suit_sound ((a.held ++ Of s ∷ a.front) ++ body_behind) (fields k) (join (join w.held (more d w.values)) (more (child t) none)) h.1
+          (joined (a.held ++ Of s ∷ a.front) body_behind Nothing (join w.held (more d w.values)) (more (child t) none)
+          (joined a.held (Of s ∷ a.front) Nothing w.held (more d w.values) is.held (e, holds_nothing a.front a.rest w.values (and_left (is_nothing a.rest) (is_no_tail a.tail) h.0) is.values)) (body, tt)),
+    )
 
 fill_alone : (m : Maker) (a : Shape) (k : Kind) (s : FieldType) (w : Work) → fill_fit a k s ≡ true → WorkIs m a w → w.endings ≡ []
 fill_alone m a k s w fit_is is =
@@ -227,7 +221,7 @@ a_parameter : (m : Maker) → IsMaker m → (n : ℕ) → Safely (Is (unions.One
 a_parameter m maker n =
     safely_bind (Is (unions.One kinds.BindingIdentifier)) (Is (unions.One kinds.FormalParameters)) (m kinds.BindingIdentifier (one (name n))) _ (made_in m maker (unions.One kinds.BindingIdentifier) kinds.BindingIdentifier (one (name n)) refl refl)
     (λ b is. made_in m maker (unions.One kinds.FormalParameters) kinds.FormalParameters (two (listed (one (child b))) absent) refl
-        (both _ _ (both _ _ (widened (unions.One kinds.BindingIdentifier) unions.Parameter b refl is) refl) refl))
+    (both _ _ (both _ _ (widened (unions.One kinds.BindingIdentifier) unions.Parameter b refl is) refl) refl))
 
 pub other_kind : (j k : Kind) (n : ℕ) → number j ≡ n → eqb n (number k) ≡ false → same_kind j k ≡ false
 other_kind j k n e other = ap (λ x. eqb x (number k)) e ∙ other
@@ -260,8 +254,8 @@ unfolding contents_of
 contents_safe m maker p body is holds =
     safely_bind (Is (unions.One kinds.AssertedParameterScope)) (Is (unions.One kinds.FunctionContents)) (m kinds.AssertedParameterScope no_parameter_names) _ (made_in m maker (unions.One kinds.AssertedParameterScope) kinds.AssertedParameterScope no_parameter_names refl refl)
     (λ scope is_scope. safely_bind (Is (unions.One kinds.AssertedVarScope)) (Is (unions.One kinds.FunctionContents)) (m kinds.AssertedVarScope no_names) _ (made_in m maker (unions.One kinds.AssertedVarScope) kinds.AssertedVarScope no_names refl refl)
-        (λ vars are_vars. made_in m maker (unions.One kinds.FunctionContents) kinds.FunctionContents (more (child scope) (more (child p) (more (child vars) body))) refl
-            (suit_sound (Of (a_node kinds.AssertedParameterScope) ∷ Of (a_node kinds.FormalParameters) ∷ Of (a_node kinds.AssertedVarScope) ∷ Of all_statements ∷ []) (fields kinds.FunctionContents) (more (child scope) (more (child p) (more (child vars) body))) refl (is_scope, (is, (are_vars, holds))))))
+    (λ vars are_vars. made_in m maker (unions.One kinds.FunctionContents) kinds.FunctionContents (more (child scope) (more (child p) (more (child vars) body))) refl
+    (suit_sound (Of (a_node kinds.AssertedParameterScope) ∷ Of (a_node kinds.FormalParameters) ∷ Of (a_node kinds.AssertedVarScope) ∷ Of all_statements ∷ []) (fields kinds.FunctionContents) (more (child scope) (more (child p) (more (child vars) body))) refl (is_scope, (is, (are_vars, holds))))))
 
 as_contents : (m : Maker) → IsMaker m → (P : Datum → Type 0) (body : Data) (t : Tree) → IsOperand Head t → Holds (Of all_statements ∷ []) Nothing body → ((p : Tree) → Is (unions.One kinds.FunctionContents) p → P (child p)) → Safely P (stands m (forms.Contents body) t)
 unfolding stands
@@ -310,5 +304,5 @@ arrow_sound m maker a x w ps qs fit_is same is =
     let h = three (operand_within o Head) (is_nothing a.rest && suit a.front (all_statements ∷ [])) (within (unions.One kinds.EagerArrowExpressionWithFunctionBody) v) e in
     around m maker o v kinds.EagerArrowExpressionWithFunctionBody (forms.Contents w.values) (one (listed w.directives)) none []
     (λ t operand. as_contents m maker (λ d. fit (fields kinds.EagerArrowExpressionWithFunctionBody) (join (one (listed w.directives)) (more d none)) ≡ true) w.values t (operand_sound o Head t h.0 operand)
-        (one_list all_statements w.values (exactly a.front a.rest (all_statements ∷ []) w.values h.1 is.values)) (λ p e. both _ _ is.directives (both _ _ e refl)))
+    (one_list all_statements w.values (exactly a.front a.rest (all_statements ∷ []) w.values h.1 is.values)) (λ p e. both _ _ is.directives (both _ _ e refl)))
     (after_sound m kinds.EagerArrowExpressionWithFunctionBody NoTail v [] h.2 refl)))

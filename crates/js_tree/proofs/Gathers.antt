@@ -1,24 +1,22 @@
 -- What the steps of a row gather, found from what its symbols' parts may be.
-use Rattle.std.proofs.Common.{◌≡◌, ℕ, Bool, true, false, ◌&&◌, List, [], ◌∷◌, ◌++◌, Option, Some, None, nat_lt}
+use Rattle.std.proofs.Common.{◌≡◌, Bool, true, false, ◌&&◌, List, [], ◌∷◌, ◌++◌, Option, Some, None, nat_lt}
 use Rattle.std.specs.List.{list_all}
 use Rattle.bast_schema.specs.declared.kind.EnumId.TheVariants as sets
 use Rattle.bast_schema.specs.declared.kind.FieldType.{FieldType}
 use Rattle.bast_schema.specs.declared.kind.FieldType.TheVariants as field
 use Rattle.bast_schema.specs.declared.kind.Kind.{Kind}
 use Rattle.bast_schema.specs.declared.kind.Kind.TheVariants as kinds
-use Rattle.bast_schema.specs.declared.kind.Union.{Union}
 use Rattle.bast_schema.specs.declared.kind.Union.TheVariants as unions
 use Rattle.bast_schema.specs.Fields.{fields}
 use Rattle.bast_schema.specs.Tree.{items_fit}
 use Rattle.js_grammar.specs.declared.class.Class.{Class}
-use Rattle.js_grammar.specs.declared.symbols.Terminal.{Terminal}
 use Rattle.js_grammar.specs.Classes.{classes_of}
 use Rattle.js_tree.specs.Nodes.{Maker}
 use Rattle.js_tree.specs.declared.parts.Part.{Part}
 use Rattle.js_tree.specs.declared.recipe.Step.{Step}
 use Rattle.js_tree.specs.declared.recipe.Step.TheVariants as steps
 use Rattle.js_tree.specs.declared.work.Work.{Work}
-use Rattle.js_tree.proofs.Sorts.{Sort, Of, Missing, Empty, Rest, Nothing, Many, Maybe, Clauses, Parameters, Holds, Tail, NoTail, Turns, Any, PartSort, Token, Values, Endings, Items, PartIs, AreEndings, AreItems, within, suits, suit, wrapped, sorts_of, tells_text, is_number, is_operator}
+use Rattle.js_tree.proofs.Sorts.{Sort, Of, Missing, Empty, Rest, Nothing, Holds, Tail, NoTail, Turns, Any, PartSort, Token, Values, Endings, Items, PartIs, AreEndings, AreItems, within, suits, suit, wrapped, sorts_of, tells_text, is_number, is_operator}
 
 -- what a row has gathered: the values, those held before them, and what is put around the operand
 pub record Shape : Type 0 where

@@ -1,5 +1,5 @@
 -- Behind the `)` of each head comes its arrow, where the tokens are marked so: what each frame of the stack waits for.
-use Rattle.std.proofs.Common.{◌≡◌, ℕ, zero, suc, Bool, true, false, not, ◌&&◌, ◌||◌, ◌⊎◌, inl, inr, List, [], ◌∷◌, ◌++◌, Option, Some, None, refl, sym, ap, ◌∙◌, subst}
+use Rattle.std.proofs.Common.{◌≡◌, ℕ, suc, Bool, true, false, not, ◌&&◌, ◌||◌, List, [], ◌∷◌, ◌++◌, Option, Some, None, refl, sym, ap, ◌∙◌, subst}
 use Rattle.std.specs.List.{list_all}
 use Rattle.js_tokens.specs.declared.heads.Role.{Role}
 use Rattle.js_tokens.specs.declared.heads.Role.TheVariants.{Opens, Closes as Closing, Arrow, Other}
@@ -16,18 +16,18 @@ use Rattle.js_grammar.specs.declared.symbols.Symbol.{Symbol}
 use Rattle.js_grammar.specs.declared.symbols.Symbol.TheVariants as symbols
 use Rattle.js_grammar.specs.declared.symbols.RowId.{RowId}
 use Rattle.js_grammar.specs.declared.symbols.RowId.TheVariants as rows
-use Rattle.js_grammar.specs.Classes.{takes_class, is_among, classes_of, same_class}
+use Rattle.js_grammar.specs.Classes.{takes_class, classes_of, same_class}
 use Rattle.js_grammar.specs.Choice.{row_of}
-use Rattle.js_grammar.specs.Rows.{row_symbols, alternatives}
+use Rattle.js_grammar.specs.Rows.{row_symbols}
 use Rattle.js_grammar.proofs.Each.{all_classes, each_class}
 use Rattle.js_machine.specs.declared.events.Frame.{Frame}
 use Rattle.js_machine.specs.declared.events.Frame.TheVariants.{Want, EndMark}
 use Rattle.js_machine.specs.declared.lookahead.Lookahead.{Lookahead}
 use Rattle.js_machine.specs.Machine.{want_all, under_mark}
-use Rattle.js_tree.proofs.Shapes.{and_left, and_right, three}
+use Rattle.js_tree.proofs.Shapes.{and_left, and_right}
 use Rattle.js_tree.proofs.Safe.{same_classes, taken_is}
-use Rattle.js_tree.proofs.Suits.{Left, Anything, NameAt, HeadAt, is_name, is_head, after, after_by}
-use Rattle.js_tree.proofs.Rowwise.{not_arrow, OnArrow}
+use Rattle.js_tree.proofs.Suits.{is_name, is_head, after_by}
+use Rattle.js_tree.proofs.Rowwise.{not_arrow}
 use Rattle.js_tree.proofs.Accepted.{ArrowNext, Closes, is_function}
 
 abbrev pub role_of_class : Class → Role
@@ -305,9 +305,11 @@ Waits fs ts = Heads true false 0 fs ts × Marked ts
 pub heads_close : Closes Waits
 heads_close = record {
   mark = λ fs ts is. is;
-  row = λ s first from n fs t ts r b e new is.
-      (pushed t.class n true false (row_symbols r) (under_mark b fs) (t ∷ ts) (head_next t ts is.1) (paired s t.class t.newline_before r e new)
-          (heads_mark false false 0 b fs (t ∷ ts) (below_symbol s first from t.class t.newline_before r fs (t ∷ ts) e is.0)), is.1);
+  row = λ s first from n fs t ts r b e new is. (
+    pushed t.class n true false (row_symbols r) (under_mark b fs) (t ∷ ts) (head_next t ts is.1) (paired s t.class t.newline_before r e new)
+        (heads_mark false false 0 b fs (t ∷ ts) (below_symbol s first from t.class t.newline_before r fs (t ∷ ts) e is.0)),
+    is.1,
+  );
   inserted = λ first from fs ts is. (fresh fs false 0 ts is.0, is.1);
   semicolon = λ first from fs t ts e is.
       (fresh fs false 0 ts (other_taken fs false false 0 t ts (ap role_of_class (same_classes t.class classes.Semicolon (or_none (same_class t.class classes.Semicolon) e))) is.0), is.1.1);

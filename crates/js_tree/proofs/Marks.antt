@@ -1,5 +1,5 @@
 -- The tokens of a text tell what the stack waits for, and their leaves what the recipes ask of them.
-use Rattle.std.proofs.Common.{◌≡◌, ℕ, zero, suc, Bool, true, false, not, ◌&&◌, ◌||◌, cond, List, [], ◌∷◌, Option, Some, None, refl, sym, ap, ◌∙◌, subst, length, nat_lt, ◌^◌}
+use Rattle.std.proofs.Common.{◌≡◌, ℕ, zero, suc, Bool, true, false, not, ◌&&◌, ◌||◌, cond, List, [], ◌∷◌, refl, ap, ◌∙◌}
 use Rattle.js_tokens.specs.declared.kinds.Token.{Token}
 use Rattle.js_tokens.specs.declared.kinds.TokenKind.{TokenKind}
 use Rattle.js_tokens.specs.declared.kinds.TokenKind.TheVariants as tokens
@@ -15,19 +15,10 @@ use Rattle.js_tokens.specs.Heads.{at_role, is_opening, is_arrow, role_of, arrow_
 use Rattle.js_grammar.specs.declared.class.Class.{Class}
 use Rattle.js_grammar.specs.declared.class.Class.TheVariants as classes
 use Rattle.js_grammar.specs.Classes.{is_among}
-use Rattle.js_grammar.specs.TokenClasses.{class_in, class_of_kind, class_of_identifier, class_of_word, class_of_mark, class_of_piece, bytes_between}
-use Rattle.js_machine.specs.declared.lookahead.Lookahead.{Lookahead}
-use Rattle.js_machine.specs.Lookahead.{seen, seen_in}
-use Rattle.bast_schema.specs.declared.kind.EnumId.{EnumId}
-use Rattle.bast_schema.specs.declared.kind.EnumId.TheVariants as sets
-use Rattle.bast_schema.specs.Choices.{choice_texts}
-use Rattle.bast_base.specs.declared.errors.NameId.{NameId}
-use Rattle.js_tree.specs.Operators.{operator, mark_choice, word_choice}
-use Rattle.js_tree.specs.declared.leaf.Leaf.{Leaf}
-use Rattle.js_tree.proofs.Shapes.{and_left, and_right}
-use Rattle.js_tree.proofs.Sorts.{LeafIs, IsTold, IsNumber, IsOperator, tells_text, is_number, is_operator}
+use Rattle.js_grammar.specs.TokenClasses.{class_of_kind, class_of_identifier, class_of_word, class_of_mark, class_of_piece, bytes_between}
+use Rattle.js_machine.specs.Lookahead.{seen}
+use Rattle.js_tree.proofs.Shapes.{and_right}
 use Rattle.js_tree.proofs.Suits.{is_head}
-use Rattle.js_tree.proofs.Rowwise.{not_arrow}
 use Rattle.js_tree.proofs.Heads.{role_of_class, arrow_at, behind, Marked}
 
 -- one of four classes

@@ -1,29 +1,14 @@
 -- What each symbol is by its role.
-use Rattle.std.proofs.Common.{◌≡◌, ℕ, zero, suc, ◌+◌, ◌≤◌, ◌<◌, Bool, true, false, not, ◌&&◌, ◌||◌, ◌⊎◌, inl, inr, List, [], ◌∷◌, ◌++◌, map, Option, Some, None, refl, sym, ap, ◌∙◌, subst, arith}
-use Rattle.std.specs.List.{list_all}
+use Rattle.std.proofs.Common.{◌≡◌, true, refl}
 use Rattle.bast_schema.specs.declared.kind.FieldType.TheVariants as field
-use Rattle.bast_schema.specs.declared.kind.Kind.TheVariants as kinds
 use Rattle.bast_schema.specs.declared.kind.Union.TheVariants as unions
-use Rattle.bast_schema.specs.Tree.{child, none, more}
-use Rattle.js_grammar.specs.declared.class.Class.{Class}
-use Rattle.js_grammar.specs.declared.class.Class.TheVariants as classes
 use Rattle.js_grammar.specs.declared.symbols.Terminal.{Terminal}
 use Rattle.js_grammar.specs.declared.symbols.Symbol.{Symbol}
 use Rattle.js_grammar.specs.declared.symbols.Symbol.TheVariants as symbols
-use Rattle.js_grammar.specs.declared.symbols.RowId.{RowId}
-use Rattle.js_grammar.specs.Classes.{takes_class}
-use Rattle.js_machine.specs.declared.events.Frame.{Frame}
-use Rattle.js_machine.specs.declared.events.Frame.TheVariants.{Want, EndMark}
-use Rattle.js_machine.specs.Machine.{want_all, under_mark}
 use Rattle.js_machine.proofs.Work.{vanishes}
-use Rattle.js_tree.specs.Nodes.{Maker}
-use Rattle.js_tree.specs.declared.parts.Part.{Part}
-use Rattle.js_tree.specs.declared.parts.Part.TheVariants as parts
-use Rattle.js_tree.proofs.Sorts.{Turns, NoTail, OneName, Head, PartSort, Token, Endings, PartIs}
-use Rattle.js_tree.proofs.Shapes.{and_left, and_right}
-use Rattle.js_tree.proofs.Gathers.{PartsAre}
+use Rattle.js_tree.proofs.Sorts.{Token}
 use Rattle.js_tree.proofs.Table.{part_of, one_node, operators, many}
-use Rattle.js_tree.proofs.Suits.{Left, Anything, NameAt, HeadAt, NoHead, is_name, is_head, after, after_by, From, StandsAt, NameStandsAt, PartIsNamed, OperandIs, NoEndings, NoValues, Role, IsToken, Passes, PassesAny, Commas, Arrows, Labels, Operand, HeadOperand, Plain, role_of, Goes, SuitsAt, Suits, Chain, is_late, OpenAt, Open, passes, hands_head, passes_head, is_ready, in_chain, is_new, Linked}
+use Rattle.js_tree.proofs.Suits.{IsToken, Passes, PassesAny, Commas, Arrows, Labels, Operand, HeadOperand, role_of, is_late}
 
 pub vanishing_passes : (s : Symbol) → role_of s ≡ Passes → vanishes s ≡ true
 vanishing_passes symbols.LhsTail e = refl
@@ -84,4 +69,3 @@ head_part symbols.Lhs e = refl
 head_part symbols.Callee e = refl
 head_part symbols.Primary e = refl
 head_part _ e = cc
-

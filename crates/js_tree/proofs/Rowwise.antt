@@ -1,61 +1,33 @@
 -- What each row leaves suits its symbol, wherever the machine takes it.
-use Rattle.std.proofs.Common.{◌≡◌, ℕ, zero, suc, ◌+◌, ◌≤◌, ◌<◌, Bool, true, false, not, ◌&&◌, ◌||◌, ◌⊎◌, inl, inr, List, [], ◌∷◌, ◌++◌, map, Option, Some, None, refl, sym, ap, ◌∙◌, subst, arith}
+use Rattle.std.proofs.Common.{◌≡◌, ℕ, suc, ◌≤◌, Bool, true, false, not, ◌&&◌, ◌||◌, ◌⊎◌, inl, inr, List, [], ◌∷◌, ◌++◌, refl, sym, ap, ◌∙◌, subst, arith}
 use Rattle.std.specs.List.{list_all}
-use Rattle.bast_schema.specs.declared.kind.FieldType.TheVariants as field
-use Rattle.bast_schema.specs.declared.kind.Kind.TheVariants as kinds
-use Rattle.bast_schema.specs.declared.kind.Union.TheVariants as unions
-use Rattle.bast_schema.specs.Tree.{child, none, more}
 use Rattle.js_grammar.specs.declared.class.Class.{Class}
 use Rattle.js_grammar.specs.declared.class.Class.TheVariants as classes
-use Rattle.js_grammar.specs.declared.symbols.Terminal.{Terminal}
 use Rattle.js_grammar.specs.declared.symbols.Symbol.{Symbol}
 use Rattle.js_grammar.specs.declared.symbols.Symbol.TheVariants as symbols
 use Rattle.js_grammar.specs.declared.symbols.RowId.{RowId}
-use Rattle.js_grammar.specs.Classes.{takes_class}
 use Rattle.js_machine.specs.declared.events.Frame.{Frame}
-use Rattle.js_machine.specs.declared.events.Frame.TheVariants.{Want, EndMark}
-use Rattle.js_machine.specs.Machine.{want_all, under_mark}
+use Rattle.js_machine.specs.declared.events.Frame.TheVariants.{Want}
+use Rattle.js_machine.specs.Machine.{want_all}
 use Rattle.js_machine.proofs.Work.{vanishes}
 use Rattle.js_tree.specs.Nodes.{Maker}
 use Rattle.js_tree.specs.declared.parts.Part.{Part}
 use Rattle.js_tree.specs.declared.parts.Part.TheVariants as parts
-use Rattle.js_tree.proofs.Sorts.{Turns, NoTail, OneName, Head, PartSort, Token, Endings, PartIs}
-use Rattle.js_tree.proofs.Shapes.{and_left, and_right}
-use Rattle.js_tree.proofs.Gathers.{PartsAre}
-use Rattle.js_tree.proofs.Table.{part_of, one_node, operators, many}
-use Rattle.js_tree.proofs.Suits.{Left, Anything, NameAt, HeadAt, NoHead, is_name, is_head, after, after_by, From, StandsAt, NameStandsAt, PartIsNamed, OperandIs, NoEndings, NoValues, Role, IsToken, Passes, PassesAny, Commas, Arrows, Labels, Operand, HeadOperand, Plain, role_of, Goes, SuitsAt, Suits, Chain, is_late, OpenAt, Open, passes, hands_head, passes_head, is_ready, in_chain, is_new, Linked}
-use Rattle.js_tree.proofs.Roles.{vanishing_passes, vanishing_any, vanishing_commas, late_arrows, late_labels, token_part, passing_part, any_part, comma_part, operand_part, head_part}
-use Rattle.std.proofs.Common.{length, get_or, Result, Ok, Err, cond}
-use Rattle.std.specs.Prelude.{◌==◌}
-use Rattle.std.specs.List.{Contains}
-use Rattle.bast_base.specs.declared.errors.NameId.{NameId}
-use Rattle.bast_schema.specs.Tree.{Tree, branch, Data, name}
-use Rattle.bast_schema.specs.declared.kind.Union.{Union}
-use Rattle.js_grammar.specs.declared.symbols.Level.{Level}
-use Rattle.js_grammar.specs.declared.symbols.Level.TheVariants as levels
-use Rattle.js_grammar.specs.declared.symbols.Mode.{Mode}
+use Rattle.js_tree.proofs.Sorts.{NoTail, Endings, PartIs}
+use Rattle.js_tree.proofs.Shapes.{and_left}
+use Rattle.js_tree.proofs.Table.{part_of, operators}
+use Rattle.js_tree.proofs.Suits.{Left, Anything, NameAt, HeadAt, NoHead, is_name, is_head, From, StandsAt, NameStandsAt, NoEndings, Role, IsToken, Passes, PassesAny, Commas, Arrows, Labels, Operand, HeadOperand, Plain, role_of, Goes, SuitsAt, Suits, Chain, is_late, OpenAt, Open, Linked}
+use Rattle.js_tree.proofs.Roles.{vanishing_passes, vanishing_any, vanishing_commas, late_arrows, passing_part, any_part, comma_part, operand_part, head_part}
 use Rattle.js_grammar.specs.declared.symbols.RowId.TheVariants as rows
 use Rattle.js_grammar.specs.Classes.{is_among}
-use Rattle.js_grammar.specs.Choice.{row_of}
-use Rattle.js_grammar.specs.Rows.{row_symbols, alternatives, next_level}
+use Rattle.js_grammar.specs.Rows.{row_symbols}
 use Rattle.js_tree.specs.Image.{row_part}
-use Rattle.js_tree.specs.Finishes.{Finished, folds, statement, sequence, with_values, with_made}
-use Rattle.js_tree.specs.Nodes.{folded, one}
-use Rattle.js_tree.specs.Parts.{one_node as node_of_one}
-use Rattle.js_tree.specs.Results.{◌>>=◌, there}
-use Rattle.js_tree.specs.Steps.{operand, put, tail, named, hold}
-use Rattle.js_tree.specs.declared.fault.Fault.{Fault}
-use Rattle.js_tree.specs.declared.fault.Fault.TheVariants as faults
-use Rattle.js_tree.specs.declared.leaf.Leaf.{Leaf}
-use Rattle.js_tree.specs.declared.parts.Ending.{Ending}
-use Rattle.js_tree.proofs.Sorts.{IsMaker, Safely, Is, IsOperand, TurnsTo, IsNamed, Values, Nothing, LeafIs}
-use Rattle.js_tree.proofs.Shapes.{both, three}
-use Rattle.js_tree.proofs.Safe.{safely_map, safely_bind, made_in, widened, taken_is}
-use Rattle.js_tree.proofs.Closing.{Makes, on_top}
-use Rattle.js_tree.proofs.Finishing.{folded_one, fold_of}
+use Rattle.js_tree.proofs.Sorts.{IsMaker, Safely}
+use Rattle.js_tree.proofs.Shapes.{three}
+use Rattle.js_tree.proofs.Safe.{safely_map}
 use Rattle.js_tree.proofs.Filling.{row_fits, row_sound}
-use Rattle.js_tree.proofs.Table.{row_parts, head_fits, label_fits}
-use Rattle.js_tree.proofs.Apart.{AtLeast, open_under, open_late, forget, no_head, all_open, from_after, no_endings, no_values, operand_is, apart_role, all_apart, TakenApart, taken_apart}
+use Rattle.js_tree.proofs.Table.{row_parts}
+use Rattle.js_tree.proofs.Apart.{AtLeast, open_under, open_late, forget, all_open, all_apart, taken_apart}
 
 -- what a row asks of the class of the token at which it is taken
 abbrev pub not_arrow : Class → Bool → Bool
@@ -233,39 +205,55 @@ generic_at m (IsToken t) s c newline n first from fs o x v p qs e behind is k = 
 generic_at m Passes s c newline n first from fs o x v p qs e (symbol, least, same, chain, late, arrow, starting, turning, light, left) is k =
     let heavy : (vanishes s && is_light (role_of s)) ≡ false = and_false (vanishes s) (is_light (role_of s)) (ap is_light e) in
     let seen : leads (true && not v) (not_arrow c newline) ≡ true = ap (λ r. leads (turns_on r && not v) (not_arrow c newline)) (sym e) ∙ turning in
-    inr (subst (λ t. PartIs m t p) (sym (passing_part s e)) is,
-        non_head c newline o (leads_true (not v) (not_arrow c newline) seen (not_from v (solid v (vanishes s && is_light (role_of s)) light heavy))) arrow,
-        forget m n fs x qs (from_least c n x (only_from v (vanishes s && is_light (role_of s)) c n o x light heavy left)) (open_under (is_late s) (vanishes s) n from (Open n fs) (vanishing_passes s e) late) k)
+    inr (
+      subst (λ t. PartIs m t p) (sym (passing_part s e)) is,
+      non_head c newline o (leads_true (not v) (not_arrow c newline) seen (not_from v (solid v (vanishes s && is_light (role_of s)) light heavy))) arrow,
+      forget m n fs x qs (from_least c n x (only_from v (vanishes s && is_light (role_of s)) c n o x light heavy left)) (open_under (is_late s) (vanishes s) n from (Open n fs) (vanishing_passes s e) late) k,
+    )
 generic_at m PassesAny s c newline n first from fs o x v p qs e (symbol, least, same, chain, late, arrow, starting, turning, light, left) is k =
     let heavy : (vanishes s && is_light (role_of s)) ≡ false = and_false (vanishes s) (is_light (role_of s)) (ap is_light e) in
-    let seen : leads (true && not v) (not_arrow c newline) ≡ true = ap (λ r. leads (turns_on r && not v) (not_arrow c newline)) (sym e) ∙ turning in
-    (subst (λ t. PartIs m t p) (sym (any_part s e)) is, inr (
+    let seen : leads (true && not v) (not_arrow c newline) ≡ true = ap (λ r. leads (turns_on r && not v) (not_arrow c newline)) (sym e) ∙ turning in (
+      subst (λ t. PartIs m t p) (sym (any_part s e)) is,
+      inr (
         non_head c newline o (leads_true (not v) (not_arrow c newline) seen (not_from v (solid v (vanishes s && is_light (role_of s)) light heavy))) arrow,
-        forget m n fs x qs (from_least c n x (only_from v (vanishes s && is_light (role_of s)) c n o x light heavy left)) (open_under (is_late s) (vanishes s) n from (Open n fs) (vanishing_any s e) late) k))
+        forget m n fs x qs (from_least c n x (only_from v (vanishes s && is_light (role_of s)) c n o x light heavy left)) (open_under (is_late s) (vanishes s) n from (Open n fs) (vanishing_any s e) late) k,
+      ),
+    )
 generic_at m Commas s c newline n first from fs o x v p qs e (symbol, least, same, chain, late, arrow, starting, turning, light, left) is k =
     let heavy : (vanishes s && is_light (role_of s)) ≡ false = and_false (vanishes s) (is_light (role_of s)) (ap is_light e) in
     let seen : leads (true && not v) (not_arrow c newline) ≡ true = ap (λ r. leads (turns_on r && not v) (not_arrow c newline)) (sym e) ∙ turning in
-    inr (subst (λ t. PartIs m t p) (sym (comma_part s e)) is,
-        non_head c newline o (leads_true (not v) (not_arrow c newline) seen (not_from v (solid v (vanishes s && is_light (role_of s)) light heavy))) arrow,
-        forget m n fs x qs (from_least c n x (only_from v (vanishes s && is_light (role_of s)) c n o x light heavy left)) (open_under (is_late s) (vanishes s) n from (Open n fs) (vanishing_commas s e) late) k)
+    inr (
+      subst (λ t. PartIs m t p) (sym (comma_part s e)) is,
+      non_head c newline o (leads_true (not v) (not_arrow c newline) seen (not_from v (solid v (vanishes s && is_light (role_of s)) light heavy))) arrow,
+      forget m n fs x qs (from_least c n x (only_from v (vanishes s && is_light (role_of s)) c n o x light heavy left)) (open_under (is_late s) (vanishes s) n from (Open n fs) (vanishing_commas s e) late) k,
+    )
 generic_at m Arrows s c newline n first from fs o x v p qs e (symbol, least, same, chain, late, arrow, starting, turning, light, left) is k =
     let heavy : (vanishes s && is_light (role_of s)) ≡ false = and_false (vanishes s) (is_light (role_of s)) (ap is_light e) in
     let seen : leads (true && not v) (not_arrow c newline) ≡ true = ap (λ r. leads (turns_on r && not v) (not_arrow c newline)) (sym e) ∙ turning in
-    inl (inr (subst (λ t. PartIs m t p) (arrows_part s e) is,
-        non_head c newline o (leads_true (not v) (not_arrow c newline) seen (not_from v (solid v (vanishes s && is_light (role_of s)) light heavy))) arrow,
-        forget m n fs x qs (from_least c n x (only_from v (vanishes s && is_light (role_of s)) c n o x light heavy left)) (open_late (is_late s) (vanishes s) n from (Open n fs) (late_arrows s e).0 late).1 k))
+    inl (inr (
+      subst (λ t. PartIs m t p) (arrows_part s e) is,
+      non_head c newline o (leads_true (not v) (not_arrow c newline) seen (not_from v (solid v (vanishes s && is_light (role_of s)) light heavy))) arrow,
+      forget m n fs x qs (from_least c n x (only_from v (vanishes s && is_light (role_of s)) c n o x light heavy left)) (open_late (is_late s) (vanishes s) n from (Open n fs) (late_arrows s e).0 late).1 k,
+    ))
 generic_at m Labels s c newline n first from fs o x v p qs e (symbol, least, same, chain, late, arrow, starting, turning, light, left) is k =
     inl (label_empty m p (subst (λ t. PartIs m t p) (labels_part s e) is), goes_back s c first n from v o x (λ x. Suits m fs x qs) least same (λ w. and_left (vanishes s) (is_light (role_of s)) (leads_true v (vanishes s && is_light (role_of s)) light w)) left k)
 generic_at m Operand s c newline n first from fs o x v p qs e (symbol, least, same, chain, late, arrow, starting, turning, light, left) is k =
     let heavy : (vanishes s && is_light (role_of s)) ≡ false = and_false (vanishes s) (is_light (role_of s)) (ap is_light e) in
-    let begun : not (starts c) ≡ true = leads_true (is_operand (role_of s)) (not (starts c)) starting (ap is_operand e) in
-    (Anything, tt, tt, subst (λ t. PartIs m t p) (sym (operand_part s e)) is,
-        forget m (suc n) fs x qs (from_later c n x begun (only_from v (vanishes s && is_light (role_of s)) c n o x light heavy left)) (all_open c n (suc n) fs chain (omega arith)) k)
+    let begun : not (starts c) ≡ true = leads_true (is_operand (role_of s)) (not (starts c)) starting (ap is_operand e) in (
+      Anything,
+      tt,
+      tt,
+      subst (λ t. PartIs m t p) (sym (operand_part s e)) is,
+      forget m (suc n) fs x qs (from_later c n x begun (only_from v (vanishes s && is_light (role_of s)) c n o x light heavy left)) (all_open c n (suc n) fs chain (omega arith)) k,
+    )
 generic_at m HeadOperand s c newline n first from fs o x v p qs e (symbol, least, same, chain, late, arrow, starting, turning, light, left) is k =
     let heavy : (vanishes s && is_light (role_of s)) ≡ false = and_false (vanishes s) (is_light (role_of s)) (ap is_light e) in
-    let begun : not (starts c) ≡ true = leads_true (is_operand (role_of s)) (not (starts c)) starting (ap is_operand e) in
-    (Anything, tt, subst (λ t. PartIs m t p) (sym (head_part s e)) is,
-        forget m (suc n) fs x qs (from_later c n x begun (only_from v (vanishes s && is_light (role_of s)) c n o x light heavy left)) (all_open c n (suc n) fs chain (omega arith)) k)
+    let begun : not (starts c) ≡ true = leads_true (is_operand (role_of s)) (not (starts c)) starting (ap is_operand e) in (
+      Anything,
+      tt,
+      subst (λ t. PartIs m t p) (sym (head_part s e)) is,
+      forget m (suc n) fs x qs (from_later c n x begun (only_from v (vanishes s && is_light (role_of s)) c n o x light heavy left)) (all_open c n (suc n) fs chain (omega arith)) k,
+    )
 generic_at m Plain s c newline n first from fs o x v p qs e (symbol, least, same, chain, late, arrow, starting, turning, light, left) is k =
     (is, goes_back s c first n from v o x (λ x. Suits m fs x qs) least same (λ w. and_left (vanishes s) (is_light (role_of s)) (leads_true v (vanishes s && is_light (role_of s)) light w)) left k)
 
@@ -282,5 +270,5 @@ generic_row m maker s r fits ok c n newline first from fs o ps here is =
     let t = taken_apart m c n fs (row_symbols r) o ps g.0 here.chain_all here.linked is in
     safely_map (λ out. (p : Part) × (out ≡ p ∷ t.1) × PartIs m (part_of s) p) (Suits m (Want s first from ∷ fs) o) (row_part m r ps)
     (λ out made. put_on m s first from fs o made.0 t.1 out made.1 (generic_at m (role_of s) s c newline n first from fs o t.0 (list_all vanishes (row_symbols r)) made.0 t.1 refl
-        (f.0, here.least, here.same, here.chain, here.late, here.arrow, g.1, g.2, f.2, t.3) made.2 t.4))
+    (f.0, here.least, here.same, here.chain, here.late, here.arrow, g.1, g.2, f.2, t.3) made.2 t.4))
     (row_sound m maker r (row_parts r) (part_of s) ps t.1 f.1 t.2)

@@ -1,5 +1,5 @@
 -- Why each step gathers what is found for it.
-use Rattle.std.proofs.Common.{◌≡◌, ℕ, zero, suc, Bool, true, false, ◌&&◌, List, [], ◌∷◌, ◌++◌, Option, Some, None, Result, Ok, Err, inl, inr, refl, sym, ap, ◌∙◌, subst, nat_lt, get_or}
+use Rattle.std.proofs.Common.{◌≡◌, ℕ, Bool, true, false, List, [], ◌∷◌, ◌++◌, Option, Some, None, Result, Ok, Err, inl, inr, refl, sym, ap, ◌∙◌, subst, get_or}
 use Rattle.std.specs.List.{list_all, list_any}
 use Rattle.std.proofs.lemmas.Bool.{eq-eqb, eqb-true}
 use Rattle.bast_base.specs.declared.errors.NameId.{NameId}
@@ -12,10 +12,9 @@ use Rattle.bast_schema.specs.declared.kind.Kind.TheVariants as kinds
 use Rattle.bast_schema.specs.declared.kind.Union.{Union}
 use Rattle.bast_schema.specs.declared.kind.Union.TheVariants as unions
 use Rattle.bast_schema.specs.Fields.{fields}
-use Rattle.bast_schema.specs.Unions.{allowed}
 use Rattle.bast_schema.specs.Kinds.{same_kind, number}
 use Rattle.bast_schema.specs.Counts.{join}
-use Rattle.bast_schema.specs.Tree.{Tree, branch, Datum, child, absent, listed, flag, whole, name, no_name, choice, Data, none, more, kind_of, typed, fits, fit, items_fit}
+use Rattle.bast_schema.specs.Tree.{Tree, branch, Datum, child, absent, listed, flag, whole, name, no_name, choice, Data, none, more, fits, fit, items_fit}
 use Rattle.js_grammar.specs.declared.class.Class.{Class}
 use Rattle.js_grammar.specs.declared.class.Class.TheVariants as classes
 use Rattle.js_grammar.specs.declared.symbols.Terminal.{Terminal}
@@ -23,9 +22,8 @@ use Rattle.js_grammar.specs.Classes.{classes_of, takes_class, is_among, same_cla
 use Rattle.js_grammar.proofs.Each.{all_classes}
 use Rattle.js_tree.specs.Nodes.{Maker, one, two, no_names, no_parameter_names, statements, behind_directives, behind_directive, directives, directives_from, ended, folded}
 use Rattle.js_tree.specs.Operators.{operator}
-use Rattle.js_tree.specs.Parts.{first_value, one_value}
 use Rattle.js_tree.specs.Results.{◌>>=◌, there}
-use Rattle.js_tree.specs.Steps.{Gathered, step_on, gathered, skip, put, operand, wrap, text, number as number_in, whole_number, named, quoted, with_operator, parameter, parameter_of, template_part, tail, rest, with_statements, body, hold, resume, closed, with_value, with_node, gather}
+use Rattle.js_tree.specs.Steps.{Gathered, step_on, gathered, skip, put, operand, wrap, text, number as number_in, whole_number, named, quoted, with_operator, parameter, parameter_of, template_part, tail, rest, with_statements, body, hold, resume, closed, with_value, with_node}
 use Rattle.js_tree.specs.declared.fault.Fault.{Fault}
 use Rattle.js_tree.specs.declared.fault.Fault.TheVariants as faults
 use Rattle.js_tree.specs.declared.leaf.Leaf.{Leaf}
@@ -37,8 +35,8 @@ use Rattle.js_tree.specs.declared.recipe.Step.{Step}
 use Rattle.js_tree.specs.declared.recipe.Step.TheVariants as steps
 use Rattle.js_tree.specs.declared.work.Work.{Work}
 use Rattle.js_tokens.specs.declared.kinds.TokenKind.TheVariants as tokens
-use Rattle.js_tree.proofs.Sorts.{Sort, Of, Missing, Empty, Fits, Rest, Nothing, Many, Maybe, Clauses, Parameters, RestIs, Holds, Tail, NoTail, Turns, Names, Fills, Binds, Any, PartSort, Token, Semicolon, Values, Endings, Items, PartIs, AreEndings, AreItems, Is, IsMaker, Safely, IsToken, IsTold, IsNumber, IsOperator, LeafIs, TurnsTo, IsOperand, Operand, within, suits, suit, wrapped, sorts_of, tells_text, is_number, is_operator}
-use Rattle.js_tree.proofs.Shapes.{and_left, and_right, both, either, joined, suits_sound, suit_sound, wrapped_sound, within_allowed}
+use Rattle.js_tree.proofs.Sorts.{Sort, Of, Missing, Empty, Fits, Rest, Nothing, Holds, Tail, NoTail, Turns, Any, PartSort, Token, Values, Endings, Items, AreEndings, AreItems, Is, IsMaker, Safely, TurnsTo, Operand, within, suits, suit, wrapped, sorts_of, tells_text, is_number, is_operator}
+use Rattle.js_tree.proofs.Shapes.{and_left, and_right, both, either, joined, suits_sound, suit_sound, wrapped_sound}
 use Rattle.js_tree.proofs.Gathers.{Shape, WorkIs, PartsAre, Checked, guard, add_on, add, add_one, a_node, skips, puts, wraps_to, wraps, takes_token, bound, pieces, join_tail, tails_to, tails, rests, lists, holds_on, closes_on, resumes, step_shape, option_then, gathers, all_directives, all_statements}
 
 -- what is done is as it is found, where something is found

@@ -1,18 +1,17 @@
 -- Why the tests on sorts mean what they say.
-use Rattle.std.proofs.Common.{◌≡◌, ℕ, Bool, true, false, not, ◌&&◌, ◌||◌, ◌⊎◌, inl, inr, List, [], ◌∷◌, ◌++◌, Option, Some, None, refl, sym, ap, ◌∙◌, subst}
+use Rattle.std.proofs.Common.{◌≡◌, ℕ, Bool, true, false, not, ◌&&◌, ◌||◌, ◌⊎◌, inl, inr, List, [], ◌∷◌, ◌++◌, Some, refl, ap, ◌∙◌, subst}
 use Rattle.std.specs.List.{list_all, list_any}
 use lib.Dec.{eqb}
-use Rattle.std.proofs.lemmas.Bool.{eq-eqb, eqb-true}
+use Rattle.std.proofs.lemmas.Bool.{eqb-true}
 use Rattle.bast_schema.specs.declared.kind.EnumId.{EnumId}
 use Rattle.bast_schema.specs.declared.kind.EnumId.TheVariants as sets
 use Rattle.bast_schema.specs.declared.kind.FieldType.{FieldType}
 use Rattle.bast_schema.specs.declared.kind.FieldType.TheVariants as field
 use Rattle.bast_schema.specs.declared.kind.Kind.{Kind}
 use Rattle.bast_schema.specs.declared.kind.Union.{Union}
-use Rattle.bast_schema.specs.declared.kind.Union.TheVariants as unions
 use Rattle.bast_schema.specs.Counts.{join}
-use Rattle.bast_schema.specs.Kinds.{same_kind, number}
-use Rattle.bast_schema.specs.Tree.{Tree, branch, Datum, child, absent, listed, flag, index, whole, name, no_name, choice, window, Data, none, more, kind_of, typed, fits, fit, is_none, items_fit, item_type}
+use Rattle.bast_schema.specs.Kinds.{number}
+use Rattle.bast_schema.specs.Tree.{Datum, child, absent, listed, name, Data, none, more, kind_of, fits, fit, is_none, items_fit, item_type}
 use Rattle.bast_schema.specs.Unions.{allowed, kinds_in}
 use Rattle.js_tree.proofs.Sorts.{Sort, Of, Missing, Empty, Fits, Rest, Nothing, Many, Maybe, Clauses, Parameters, RestIs, Holds, case, default, parameter, last_parameter, within, same_set, leads, suits, suit, rest_within, behind_within, shape_within, is_filled, all_suit, wrapped, wrapped_if, sorts_of}
 

@@ -1,16 +1,16 @@
 -- The numbers among the tokens of a text are below 2^53.
-use Rattle.std.proofs.Common.{◌≡◌, ℕ, ◌<◌, ◌^◌, Bool, true, false, ◌&&◌, ◌||◌, cond, List, [], ◌∷◌, Option, Some, None, Result, Ok, Err, refl, sym, subst, nat_lt}
+use Rattle.std.proofs.Common.{◌≡◌, ℕ, ◌^◌, Bool, true, false, ◌&&◌, ◌||◌, cond, List, [], ◌∷◌, Option, Some, None, Result, Ok, Err, refl, subst, nat_lt}
 use Rattle.std.specs.Prelude.{◌==◌}
 use Rattle.std.proofs.lemmas.Bool.{lt-ltb}
-use Rattle.js_tokens.specs.Cut.{Cut, CutOf, over, gap, name, other, name_kind, name_at}
+use Rattle.js_tokens.specs.Cut.{Cut, CutOf, over, gap, name, other}
 use Rattle.js_tokens.specs.Heads.{with_heads}
 use Rattle.js_tokens.specs.Numbers.{number_at}
 use Rattle.js_tokens.specs.Place.{Place, behind, behind_first, first_is, past, ◌>>=◌}
-use Rattle.js_tokens.specs.Scan.{scan_at, token_at, other_at, begins_number, begins_piece, comment_at, comment_to, comment_from, mark_to, found, piece}
+use Rattle.js_tokens.specs.Scan.{scan_at, token_at, other_at, begins_number, begins_piece, comment_to, comment_from, mark_to, found, piece}
 use Rattle.js_tokens.specs.Classes.{is_space, is_newline, is_in_line, is_start, is_part}
 use Rattle.js_tokens.specs.Strings.{string_at, template_at, closing}
 use Rattle.js_tokens.specs.Marks.{mark_at}
-use Rattle.js_tokens.specs.Words.{kind_of_name, kind_of_word, word_named}
+use Rattle.js_tokens.specs.Words.{kind_of_word}
 use Rattle.js_tokens.specs.Braces.{is_inside}
 use Rattle.js_tokens.specs.declared.braces.Brace.{Brace}
 use Rattle.js_tokens.specs.declared.kinds.Mark.{Mark}

@@ -1,5 +1,5 @@
 -- What the values of a symbol may be, and what is put around an operand: tests that compute, and what they stand for.
-use Rattle.std.proofs.Common.{◌≡◌, ℕ, Bool, true, false, not, ◌&&◌, ◌||◌, ◌⊎◌, List, [], ◌∷◌, ◌++◌, Option, Some, None, Result, Ok, Err, length, nat_lt, ◌^◌}
+use Rattle.std.proofs.Common.{◌≡◌, ℕ, Bool, true, false, not, ◌&&◌, ◌||◌, ◌⊎◌, List, [], ◌∷◌, Option, Some, None, Result, Ok, Err, length, nat_lt, ◌^◌}
 use Rattle.std.specs.Prelude.{◌==◌}
 use Rattle.std.specs.List.{list_all}
 use Rattle.bast_base.specs.declared.errors.NameId.{NameId}
@@ -14,7 +14,7 @@ use Rattle.bast_schema.specs.declared.kind.Union.TheVariants as unions
 use Rattle.bast_schema.specs.Choices.{choice_texts}
 use Rattle.bast_schema.specs.Counts.{join}
 use Rattle.bast_schema.specs.Fields.{fields}
-use Rattle.bast_schema.specs.Tree.{Tree, branch, Datum, child, absent, listed, Data, none, more, kind_of, typed, fits, fit}
+use Rattle.bast_schema.specs.Tree.{Tree, branch, Datum, child, absent, listed, Data, none, more, fits, fit}
 use Rattle.bast_schema.specs.Unions.{allowed, kinds_in}
 use Rattle.js_grammar.specs.declared.class.Class.{Class}
 use Rattle.js_grammar.specs.declared.class.Class.TheVariants as classes
@@ -27,7 +27,6 @@ use Rattle.js_tree.specs.declared.fault.Fault.TheVariants as faults
 use Rattle.js_tree.specs.declared.leaf.Leaf.{Leaf}
 use Rattle.js_tree.specs.declared.parts.Part.{Part}
 use Rattle.js_tree.specs.declared.parts.Part.TheVariants as parts
-use Rattle.js_tree.specs.declared.parts.Form.{Form}
 use Rattle.js_tree.specs.declared.parts.Form.TheVariants as forms
 use Rattle.js_tree.specs.declared.parts.Ending.{Ending}
 use Rattle.js_tree.specs.declared.parts.Ending.TheVariants as endings

@@ -1,5 +1,5 @@
 -- Which parts suit a stack: each symbol's part is of its sort, an arrow's behind one name or a head, a label's behind one name.
-use Rattle.std.proofs.Common.{◌≡◌, ℕ, ◌≤◌, ◌<◌, Bool, true, false, ◌&&◌, ◌||◌, ◌⊎◌, inl, inr, List, [], ◌∷◌}
+use Rattle.std.proofs.Common.{◌≡◌, ℕ, ◌≤◌, ◌<◌, Bool, true, false, ◌&&◌, ◌||◌, ◌⊎◌, List, [], ◌∷◌}
 use Rattle.bast_schema.specs.declared.kind.Kind.TheVariants as kinds
 use Rattle.bast_schema.specs.declared.kind.FieldType.TheVariants as field
 use Rattle.bast_schema.specs.declared.kind.Union.TheVariants as unions
@@ -16,7 +16,7 @@ use Rattle.js_machine.proofs.Work.{vanishes}
 use Rattle.js_tree.specs.Nodes.{Maker}
 use Rattle.js_tree.specs.declared.parts.Part.{Part}
 use Rattle.js_tree.specs.declared.parts.Part.TheVariants as parts
-use Rattle.js_tree.proofs.Sorts.{IsNamed, Turns, OneName, Head, PartSort, Token, Endings, PartIs}
+use Rattle.js_tree.proofs.Sorts.{IsNamed, Turns, OneName, Head, Token, Endings, PartIs}
 use Rattle.js_tree.proofs.Table.{part_of, one_node, operators, many}
 
 -- what was derived last: anything, one name that is the token of this number, or the head whose `(` is

@@ -13,7 +13,7 @@ use Rattle.js_grammar.specs.declared.symbols.Symbol.TheVariants as symbols
 use Rattle.js_grammar.specs.declared.symbols.RowId.{RowId}
 use Rattle.js_grammar.specs.declared.symbols.RowId.TheVariants as rows
 use Rattle.js_grammar.specs.Rows.{alternatives, row_symbols}
-use Rattle.js_tree.proofs.Sorts.{Rest, Nothing, Many, Maybe, Clauses, Parameters, Tail, NoTail, Turns, Names, Fills, Binds, Any, OneName, Head, PartSort, Token, Semicolon, Values, Endings, Items, case, declarators}
+use Rattle.js_tree.proofs.Sorts.{Nothing, Many, Maybe, Clauses, Parameters, NoTail, Turns, Names, Fills, Binds, Any, OneName, Head, PartSort, Token, Semicolon, Values, Endings, Items, case, declarators}
 use Rattle.js_tree.proofs.Filling.{row_fits, block}
 
 abbrev pub one_node : Union → PartSort

@@ -1,7 +1,5 @@
 -- What the machine accepts of the tokens of a text has a tree.
-use Rattle.std.proofs.Common.{◌≡◌, ℕ, zero, suc, Bool, true, false, ◌&&◌, cond, List, [], ◌∷◌, Option, Some, None, Result, Ok, Err, refl, sym, ap, ◌∙◌, subst, length, nat_lt, ◌^◌}
-use Rattle.js_tokens.specs.Tokens.{AreTokens}
-use Rattle.js_tokens.specs.Heads.{with_heads}
+use Rattle.std.proofs.Common.{◌≡◌, ℕ, Bool, true, false, List, [], ◌∷◌, Option, Some, None, Result, Ok, Err, refl, sym, ap, ◌∙◌, subst, length, nat_lt, ◌^◌}
 use Rattle.js_tokens.specs.declared.kinds.Token.{Token}
 use Rattle.js_tokens.specs.declared.kinds.TokenKind.{TokenKind}
 use Rattle.js_tokens.specs.declared.kinds.TokenKind.TheVariants as tokens
@@ -14,10 +12,7 @@ use Rattle.js_tokens.specs.declared.kinds.Piece.TheVariants as pieces
 use Rattle.js_grammar.specs.declared.class.Class.{Class}
 use Rattle.js_grammar.specs.declared.class.Class.TheVariants as classes
 use Rattle.js_grammar.specs.TokenClasses.{class_in, class_of_kind, class_of_identifier, class_of_word, class_of_mark, class_of_piece, bytes_between}
-use Rattle.js_machine.specs.declared.events.Event.{Event}
-use Rattle.js_machine.specs.declared.lookahead.Lookahead.{Lookahead}
 use Rattle.js_machine.specs.Lookahead.{seen}
-use Rattle.js_machine.specs.Machine.{Accepted, Ends}
 use Rattle.bast_schema.specs.declared.kind.EnumId.{EnumId}
 use Rattle.bast_schema.specs.declared.kind.EnumId.TheVariants as sets
 use Rattle.bast_schema.specs.declared.kind.Kind.TheVariants as kinds
@@ -31,7 +26,7 @@ use Rattle.js_tree.specs.declared.fault.Fault.{Fault}
 use Rattle.js_tree.specs.declared.fault.Fault.TheVariants as faults
 use Rattle.js_tree.specs.declared.leaf.Leaf.{Leaf}
 use Rattle.js_tree.specs.Tells.{has_text, Tells, LeavesTell, IsScriptOrDeep, AcceptedHaveTrees}
-use Rattle.js_tree.proofs.Sorts.{LeafIs, IsTold, IsNumber, IsOperator, tells_text, is_number, is_operator, Safely, Is}
+use Rattle.js_tree.proofs.Sorts.{LeafIs, tells_text, is_number, is_operator, Safely, Is}
 use Rattle.js_tree.proofs.Small.{is_small, AreSmall, tokens_small}
 use Rattle.js_tree.proofs.Accepted.{LeavesAre}
 use Rattle.js_tree.proofs.Heads.{Marked, Waits, heads_close}

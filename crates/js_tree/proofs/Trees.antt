@@ -1,68 +1,46 @@
 -- What the machine accepts has a tree of a script, where an arrow comes behind each head.
-use Rattle.std.proofs.Common.{◌≡◌, ℕ, zero, suc, ◌+◌, ◌≤◌, ◌<◌, Bool, true, false, not, cond, ◌&&◌, ◌||◌, ◌⊎◌, inl, inr, List, [], ◌∷◌, ◌++◌, map, reverse, Option, Some, None, Result, Ok, Err, refl, sym, ap, ◌∙◌, subst, arith, append_assoc}
-use Rattle.std.proofs.lemmas.List.{reverse-append}
-use Rattle.std.specs.Prelude.{◌==◌}
-use Rattle.std.specs.List.{list_all}
-use Rattle.std.proofs.lemmas.Bool.{eq-eqb, eqb-true}
+use Rattle.std.proofs.Common.{◌≡◌, ℕ, zero, suc, ◌+◌, Bool, true, false, cond, ◌&&◌, inl, inr, List, [], ◌∷◌, ◌++◌, reverse, Some, None, Ok, Err, refl, sym, ap, ◌∙◌, subst, arith}
 use Rattle.js_grammar.specs.declared.class.Class.{Class}
 use Rattle.js_grammar.specs.declared.class.Class.TheVariants as classes
-use Rattle.js_grammar.specs.declared.symbols.Terminal.{Terminal}
 use Rattle.js_grammar.specs.declared.symbols.Terminal.TheVariants as terminals
-use Rattle.js_grammar.specs.declared.symbols.Symbol.{Symbol}
 use Rattle.js_grammar.specs.declared.symbols.Symbol.TheVariants as symbols
-use Rattle.js_grammar.specs.declared.symbols.RowId.{RowId}
 use Rattle.js_grammar.specs.declared.symbols.RowId.TheVariants as rows
-use Rattle.js_grammar.specs.Classes.{takes_class, is_among, same_class}
-use Rattle.js_grammar.specs.Choice.{row_of}
-use Rattle.js_grammar.specs.Rows.{row_symbols, is_marked}
-use Rattle.js_machine.specs.declared.kinds.Kind.{Kind}
-use Rattle.js_machine.specs.declared.kinds.Kind.TheVariants.{Terminal as TakesToken, Semicolon, Expands}
+use Rattle.js_grammar.specs.Classes.{takes_class, is_among}
+use Rattle.js_grammar.specs.Rows.{row_symbols}
 use Rattle.js_machine.specs.declared.events.Frame.{Frame}
-use Rattle.js_machine.specs.declared.events.Frame.TheVariants.{Want, EndMark}
+use Rattle.js_machine.specs.declared.events.Frame.TheVariants.{Want}
 use Rattle.js_machine.specs.declared.events.Event.{Event}
-use Rattle.js_machine.specs.declared.events.Event.TheVariants.{Row, Took, Inserted}
-use Rattle.js_machine.specs.declared.stops.Stop.{Stop}
-use Rattle.js_machine.specs.declared.stops.Stop.TheVariants.{Syntax, TooDeep}
+use Rattle.js_machine.specs.declared.events.Event.TheVariants.{Row}
+use Rattle.js_machine.specs.declared.stops.Stop.TheVariants.{Syntax}
 use Rattle.js_machine.specs.declared.lookahead.Lookahead.{Lookahead}
-use Rattle.js_machine.specs.Left.{is_behind}
-use Rattle.js_machine.specs.Machine.{State, Stay, Halt, Outcome, Accepted, Stopped, start, act_on, go_on, run, finish, use_kind, use_row, use_token, kind_of, counts_as_there, want_all, under_mark, with_row, with_token, is_too_deep, may_follow, is_one_identifier, is_one_head, stuck}
-use Rattle.js_machine.proofs.Work.{vanishes}
-use Rattle.js_tree.specs.Image.{Built, image, event_part, leaf_part, row_part}
+use Rattle.js_machine.specs.Machine.{Accepted, start, run, want_all, with_row}
+use Rattle.js_tree.specs.Image.{image, event_part, row_part}
 use Rattle.js_tree.specs.Nodes.{Maker}
 use Rattle.js_tree.specs.Results.{◌>>=◌}
-use Rattle.js_tree.specs.declared.fault.Fault.{Fault}
 use Rattle.js_tree.specs.declared.leaf.Leaf.{Leaf}
 use Rattle.js_tree.specs.declared.parts.Part.{Part}
 use Rattle.js_tree.specs.declared.parts.Part.TheVariants as parts
-use Rattle.js_tree.proofs.Sorts.{IsMaker, Safely, LeafIs}
-use Rattle.js_tree.proofs.Shapes.{and_left, and_right, both, either, three}
-use Rattle.js_tree.proofs.Safe.{safely_bind, same_classes}
-use Rattle.js_tree.proofs.Suits.{Left, Anything, NameAt, HeadAt, is_name, is_head, after, after_by, From, StandsAt, NameStandsAt, SuitsAt, Suits, Chain, is_late, OpenAt, Open, passes_head, is_ready, in_chain, is_new, Linked}
-use Rattle.js_tree.proofs.Apart.{open_under, all_open, from_after}
-use Rattle.js_tree.proofs.Rowwise.{leads, leads_true, not_arrow, class_ok, OnArrow, Followed, Here}
-use Rattle.js_tree.proofs.EachRow.{row_goal, row_linked, row_guarded, row_ok, ok_at}
-use Rattle.std.proofs.Common.{length}
+use Rattle.js_tree.proofs.Sorts.{IsMaker, Safely}
+use Rattle.js_tree.proofs.Shapes.{and_left, and_right}
+use Rattle.js_tree.proofs.Safe.{safely_bind}
+use Rattle.js_tree.proofs.Suits.{Anything, Suits}
+use Rattle.js_tree.proofs.Rowwise.{Here}
+use Rattle.js_tree.proofs.EachRow.{row_goal}
 use Rattle.std.proofs.lemmas.List.{append-nil}
 use Rattle.bast_schema.specs.declared.kind.Kind.TheVariants as kinds
-use Rattle.bast_schema.specs.declared.kind.Kind.{Kind as NodeKind}
 use Rattle.bast_schema.specs.declared.kind.FieldType.{FieldType}
 use Rattle.bast_schema.specs.Tree.{fits}
-use Rattle.bast_schema.specs.declared.node.NodeFault.{NodeFault}
 use Rattle.bast_schema.specs.declared.node.NodeFault.TheVariants as node_faults
-use Rattle.bast_schema.specs.declared.kind.Union.{Union}
 use Rattle.bast_schema.specs.declared.kind.Union.TheVariants as unions
-use Rattle.bast_schema.specs.Made.{node_of, node_or, limited as limited_node}
+use Rattle.bast_schema.specs.Made.{node_or}
 use Rattle.bast_schema.specs.Fields.{fields}
 use Rattle.bast_schema.specs.Tree.{Tree, branch, child, Data, none, more, fit, first_wrong, depth}
 use Rattle.std.specs.Prelude.{nat_lt}
 use Rattle.js_tree.specs.Image.{root, tree_of}
 use Rattle.js_tree.specs.Nodes.{unlimited, limited, of_node}
-use Rattle.js_tree.specs.declared.fault.Fault.TheVariants as faults
 use Rattle.js_tree.proofs.Sorts.{Is, PartIs}
 use Rattle.js_tree.proofs.Table.{one_node}
-use Rattle.js_tree.proofs.Safe.{safely_map}
-use Rattle.js_tree.proofs.Suits.{Goes}
-use Rattle.js_tree.proofs.Accepted.{LeavesAre, Closes, Sound, Made, Builds, builds, stopped_not, not_next, Agree}
+use Rattle.js_tree.proofs.Accepted.{LeavesAre, Closes, Sound, Builds, builds, stopped_not, not_next, Agree}
 
 -- the one node that is left
 root_of_part : (m : Maker) (p : Part) → PartIs m (one_node (unions.One kinds.Script)) p → Safely (Is (unions.One kinds.Script)) (root (p ∷ []))
@@ -124,8 +102,8 @@ accepted_tree m maker K closes n over [] ls all leaves k e = stopped_not (Syntax
 accepted_tree m maker K closes zero over (t ∷ ts) ls all leaves k e = cc
 accepted_tree m maker K closes (suc n) over (t ∷ ts) ls all leaves k e =
     let rest : Builds m (with_row rows.Script t.class (record start { stack = [] })).stack (with_row rows.Script t.class (record start { stack = [] })) (t ∷ ts) ls all =
-        builds m maker K closes all n over (t ∷ ts) ls (with_row rows.Script t.class (record start { stack = [] })) leaves (λ c u us same is. let now : t.class ≡ c = let first : t ≡ u = cc in ap (λ t. t.class) first ∙ sym is in sound_begun t.class c now)
-        (closes.row symbols.Script classes.End 0 0 [] t ts rows.Script false refl (λ e. cc) k) e in
+    builds m maker K closes all n over (t ∷ ts) ls (with_row rows.Script t.class (record start { stack = [] })) leaves (λ c u us same is. let now : t.class ≡ c = let first : t ≡ u = cc in ap (λ t. t.class) first ∙ sym is in sound_begun t.class c now)
+    (closes.row symbols.Script classes.End 0 0 [] t ts rows.Script false refl (λ e. cc) k) e in
     subst (λ all. Safely (Is (unions.One kinds.Script)) (tree_of m ls all)) (sym rest.1) (tree_made m maker t.class t.newline_before ls rest.0 (rest.2 Anything tt (agree_begun t.class) []))
 
 -- both makers make the node of each kind whose fields fit
