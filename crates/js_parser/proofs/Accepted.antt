@@ -1,17 +1,16 @@
 -- Why what the machine accepts of a text has a tree: its leaves tell what the tree needs of them.
-use Rattle.std.proofs.Common.{◌≡◌, ℕ, Bool, true, List, [], ◌∷◌, Option, Some, None, Result, Err, refl, subst}
+use Rattle.std.proofs.Common.{◌≡◌, ℕ, true, List, [], ◌∷◌, Option, Some, None, Err, refl, subst}
 use Rattle.bast_base.specs.declared.errors.NameId.{NameId}
-use Rattle.bast_schema.specs.Tree.{Tree}
 use Rattle.js_machine.specs.Machine.{Accepted, Ends}
 use Rattle.js_machine.specs.declared.events.Event.{Event}
-use Rattle.js_parser.specs.Leaves.{AreLeaves, IsLeafOf, Stands, text_by}
+use Rattle.js_parser.specs.Leaves.{AreLeaves, Stands, text_by}
 use Rattle.js_tokens.specs.Tokens.{AreTokens}
 use Rattle.js_tokens.specs.declared.kinds.Token.{Token}
 use Rattle.js_tokens.specs.declared.kinds.TokenKind.{TokenKind}
 use Rattle.js_tokens.specs.declared.kinds.TokenKind.TheVariants as kinds
 use Rattle.js_tree.specs.Image.{tree_of}
 use Rattle.js_tree.specs.Nodes.{limited}
-use Rattle.js_tree.specs.Tells.{Tells, LeavesTell, has_text, IsScriptOrDeep}
+use Rattle.js_tree.specs.Tells.{LeavesTell, has_text, IsScriptOrDeep}
 use Rattle.js_tree.specs.declared.fault.Fault.TheVariants as faults
 use Rattle.js_tree.specs.declared.leaf.Leaf.{Leaf}
 use Rattle.js_tree.proofs.Told.{accepted_have_trees}
