@@ -32,7 +32,7 @@ use Rattle.js_tree.proofs.Shapes.{and_left, and_right, both, three, suits_sound,
 use Rattle.js_tree.proofs.Gathers.{Shape, WorkIs, PartsAre, a_node}
 use Rattle.js_tree.proofs.Safe.{safely_bind, safely_map, widened, made_in}
 use Rattle.js_tree.proofs.Closing.{Makes, none_left, one_left, node_target, values_target, tail_target, items_target, turns_target, at_node, at_values, at_tail, at_items, at_turns, nothing_left, on_top, operand_within, operand_sound, tail_within, tail_sound, part_within, same_sound, after_sound, around, plainly}
-use Rattle.js_tree.proofs.Finishing.{made_on_top, endings_on_top, exactly, none_behind, other_kind, kind_is, is_nothing, is_no_tail, folds_fit, folds_sound, statement_fit, statement_sound, property_fit, property_sound, ends_fit, ends_sound, heads_fit, heads_sound, label_fit, label_sound, arrow_fit, arrow_sound}
+use Rattle.js_tree.proofs.SortedFinishes.{made_on_top, endings_on_top, exactly, none_behind, other_kind, kind_is, is_nothing, is_no_tail, folds_fit, folds_sound, statement_fit, statement_sound, property_fit, property_sound, ends_fit, ends_sound, heads_fit, heads_sound, label_fit, label_sound, arrow_fit, arrow_sound}
 use Rattle.js_tree.specs.Recipes.{recipe}
 use Rattle.js_tree.specs.Image.{row_part}
 use Rattle.js_tree.specs.Steps.{no_work}

@@ -4,7 +4,7 @@ pub mod Broken
 pub mod Closing
 pub mod EachRow
 pub mod Filling
-pub mod Finishing
+pub mod SortedFinishes
 pub mod Gathers
 pub mod Heads
 pub mod Marks

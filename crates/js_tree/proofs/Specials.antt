@@ -43,7 +43,7 @@ use Rattle.js_tree.proofs.Sorts.{IsMaker, Safely, Is, IsOperand, TurnsTo}
 use Rattle.js_tree.proofs.Shapes.{both}
 use Rattle.js_tree.proofs.Safe.{safely_map, safely_bind, made_in, taken_is}
 use Rattle.js_tree.proofs.Closing.{Makes, on_top}
-use Rattle.js_tree.proofs.Finishing.{folded_one, fold_of}
+use Rattle.js_tree.proofs.SortedFinishes.{folded_one, fold_of}
 use Rattle.js_tree.proofs.Filling.{row_fits, row_sound}
 use Rattle.js_tree.proofs.Table.{row_parts, head_fits, label_fits}
 use Rattle.js_tree.proofs.Apart.{forget, operand_is, taken_apart}
