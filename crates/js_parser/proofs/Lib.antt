@@ -1,3 +1,4 @@
+pub mod Accepted
 pub mod LeafLists
 pub mod LeafNames
 pub mod OneAnswer

@@ -59,7 +59,6 @@ IsRefused text old new (source.Syntax at) = StopsAt text (Syntax at)
 IsRefused text old new (source.NotHere at what) = StopsAt text (NotHere at what)
 IsRefused text old new (source.TooDeep at) = StopsAt text (TooDeep at)
 IsRefused text old new source.DeepTree = IsSource text old new (Err faults.TooDeep)
-IsRefused text old new source.Broken = IsSource text old new (Err faults.Broken)
 
 -- where the text is not cut, or the machine stops, the table is left as it was
 abbrev pub LeavesTable : List (Option (List ℕ)) → List (Option (List ℕ)) → SourceFault → Type 0
@@ -69,4 +68,3 @@ LeavesTable old new (source.Syntax at) = new ≡ old
 LeavesTable old new (source.NotHere at what) = new ≡ old
 LeavesTable old new (source.TooDeep at) = new ≡ old
 LeavesTable old new source.DeepTree = Unit {0}
-LeavesTable old new source.Broken = Unit {0}

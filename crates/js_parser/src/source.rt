@@ -35,8 +35,6 @@ pub enum SourceFault {
     TooDeep { at: u32 },
     /// The script has a tree, which would be more than 512 deep.
     DeepTree,
-    /// The steps of the machine have no image. That this does not come is not proved yet.
-    Broken,
 }
 
 /// The tree of a script, with its texts added at the end of the table.
@@ -73,7 +71,7 @@ pub fn parse(alloc: Global, text: &str, strings: &mut StringTable) -> Result<Nod
         Ok(tree) => Ok(tree),
         Err(Fault::Memory) => Err(SourceFault::Memory),
         Err(Fault::TooDeep) => Err(SourceFault::DeepTree),
-        Err(Fault::Broken) => Err(SourceFault::Broken),
+        Err(Fault::Broken) => unreachable!(),
     }
 }
 

@@ -106,7 +106,6 @@ fn put_fault(fault: SourceFault, out: &mut String) -> Result<(), Fail> {
             write!(out, "NotHere {name} {at}")?
         }
         SourceFault::DeepTree => out.push_str("DeepTree")?,
-        SourceFault::Broken => out.push_str("Broken")?,
     }
     Ok(())
 }

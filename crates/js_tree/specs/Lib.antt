@@ -10,4 +10,5 @@ pub mod Results
 pub mod Runs
 pub mod Statements
 pub mod Steps
+pub mod Tells
 pub mod TreeLaws

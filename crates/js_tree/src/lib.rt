@@ -4,6 +4,7 @@
 mod build;
 mod fault;
 mod finishes;
+mod laws;
 mod leaf;
 mod nodes;
 mod operators;
@@ -19,5 +20,6 @@ mod work;
 
 pub use build::build_tree;
 pub use fault::Fault;
+pub use laws::accepted_have_trees;
 pub use leaf::Leaf;
 pub use tree_laws::{limit_refuses_deep_trees, trees_hold};

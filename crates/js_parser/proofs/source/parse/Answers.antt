@@ -1,4 +1,4 @@
-use Rattle.std.proofs.Common.{◌≡◌, ◌≤◌, ◌<◌, ◌+◌, ◌*◌, Ok, ap, length, subst, arith}
+use Rattle.std.proofs.Common.{◌≡◌, ◌≤◌, ◌<◌, ◌+◌, ◌*◌, Ok, ap, sym, ◌∙◌, length, subst, arith}
 use Rattle.bast_schema.specs.Counts.{size}
 use Rattle.js_parser.proofs.LeafNames.{names_of}
 use Rattle.js_tree.specs.Image.{tree_of}
@@ -6,6 +6,10 @@ use Rattle.js_tree.specs.Nodes.{limited}
 use Rattle.js_tree.proofs.Payments.{trees_are_small}
 use Rattle.js_tree.proofs.Scripts.{trees_are_scripts}
 use Rattle.js_tree.proofs.TreesHold.{trees_are_whole, trees_are_eager, trees_have_names, trees_are_shallow}
+use Rattle.js_machine.specs.Machine.{Accepted, Ends}
+use Rattle.js_parser.specs.Leaves.{AreLeaves}
+use Rattle.js_tree.specs.Results.{Fails}
+use Rattle.js_parser.proofs.Accepted.{never_broken}
 use Rattle.js_parser.proofs.source.parse.Goals as goal
 
 pub returns-in-Ok-build_tree-clause-script : goal.returns-in-Ok-build_tree-clause-script
@@ -40,3 +44,11 @@ returns-in-Ok-build_tree-clause-size c =
     let short : length c.args.text.now ≤ 8388608 = c.requires.size in
     let less : size c.in-Ok-build_tree.tree < 7 * (length c.args.text.now + 1) = returns-in-Ok-build_tree-clause-small c in
     omega (arith, short, less)
+
+pub unreachable-requires : goal.unreachable-requires
+unreachable-requires c =
+    let ends = subst (λ ts. Ends c.args.text.now ts (Accepted c.in-Ok-derive.events.items)) c.deref.ensures.value c.in-Ok-derive.ensures.accepted in
+    let leaves = subst (λ ts. AreLeaves c.args.text.now c.leaves_of.new.strings ts c.in-Ok-leaves_of.leaves.items) c.deref-2.ensures.value c.in-Ok-leaves_of.ensures.leaves in
+    let broken = subst (λ e. Fails e (tree_of limited c.in-Ok-leaves_of.leaves.items c.deref-3.result.now)) c.in-Err-Broken.field-0-is c.in-Err-Broken.ensures in
+    never_broken c.args.text.now c.leaves_of.new.strings c.in-Ok.tokens.items c.in-Ok-leaves_of.leaves.items c.in-Ok-derive.events.items c.in-Ok.ensures.tokens leaves ends
+    (ap (tree_of limited c.in-Ok-leaves_of.leaves.items) (sym c.deref-3.ensures.value) ∙ broken)
