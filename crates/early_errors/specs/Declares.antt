@@ -14,7 +14,7 @@ use Rattle.early_errors.specs.declared.kinds.Role.{Role}
 use Rattle.early_errors.specs.declared.kinds.Role.TheVariants.{Script, Contents, Arrow, Block, For, Catch, Declarator, Unary, Use}
 use Rattle.early_errors.specs.Kinds.{role}
 
--- the values behind the first, which is the directives of a script and a scope of every other holder
+-- the values behind the first: behind the directives of a script, behind the first scope of a function's contents
 abbrev pub behind : Data → Data
 behind none = none
 behind (more d ds) = ds

@@ -34,28 +34,30 @@ if_so asked (Broken name) = where_so asked name
 abbrev pub e1 : Reading → Finding
 e1 x = by_name (repeated x.lexicals)
 
--- a lexical name of a list of statements is a var name there (13.2.1, 13.12.1, 14.1.2, 15.1.1)
+-- what is found at a holder, not at a for statement
 abbrev pub not_for : Role → Finding → Finding
 not_for roles.For found = Holds
 not_for _ found = found
 
+-- a lexical name of a list of statements is a var name there (13.2.1, 13.12.1, 14.1.2, 15.1.1)
 abbrev pub e2 : Reading → Finding
 e2 x = not_for x.role (by_name (shared x.lexicals x.vars))
 
--- a parameter name is a lexical name of the body (14.1.2, 14.2.1, 14.3.1)
+-- what is found at the contents of a function
 abbrev pub at_contents : Role → Finding → Finding
 at_contents roles.Contents found = found
 at_contents _ found = Holds
 
+-- a parameter name is a lexical name of the body (14.1.2, 14.2.1, 14.3.1)
 abbrev pub e3 : Reading → Finding
 e3 x = at_contents x.role (by_name (shared x.lexicals x.parameters))
 
--- two parameters have one name in strict code, in a list that is not simple, in an arrow or in a method (14.1.2, 14.2.1,
--- 14.3.1)
 abbrev pub is_arrow : Role → Bool
 is_arrow roles.Arrow = true
 is_arrow _ = false
 
+-- two parameters have one name in strict code, in a list that is not simple, in an arrow or in a method (14.1.2, 14.2.1,
+-- 14.3.1)
 abbrev pub e4 : Reading → Finding
 e4 x = if_so (x.flags.strict || (not x.simple || (x.flags.unique || is_arrow x.role))) (by_name (repeated x.parameters))
 
@@ -63,7 +65,7 @@ e4 x = if_so (x.flags.strict || (not x.simple || (x.flags.unique || is_arrow x.r
 abbrev pub e5 : Reading → Finding
 e5 x = where_so (not x.simple && x.flags.own_strict) None
 
--- `eval` or `arguments` is bound or assigned to in strict code (12.1.1, 12.4.1, 12.5.1, 12.14.1, 13.7.5.1)
+-- whether a node is bound, or is assigned to
 abbrev pub is_assigned : Role → Bool → Bool
 is_assigned roles.Binding target = true
 is_assigned roles.Use target = target
@@ -72,6 +74,7 @@ is_assigned _ target = false
 abbrev pub is_restricted : List ℕ → Bool
 is_restricted t = bytes_eq t (codes "eval") || bytes_eq t (codes "arguments")
 
+-- `eval` or `arguments` is bound or assigned to in strict code (12.1.1, 12.4.1, 12.5.1, 12.14.1, 13.7.5.1)
 abbrev pub e6 : Reading → Finding
 e6 x = where_so (is_assigned x.role x.flags.target && (x.flags.strict && has_text is_restricted x.text)) x.name
 
@@ -79,7 +82,7 @@ e6 x = where_so (is_assigned x.role x.flags.target && (x.flags.strict && has_tex
 abbrev pub e7 : Reading → Finding
 e7 x = if_so x.flags.strict (by_name x.deleted)
 
--- a word that strict code reserves, as a binding, a use or a label (12.1.1). `let` and `yield` are reserved everywhere here.
+-- the words that strict code reserves, but `let` and `yield`, which are reserved everywhere here
 abbrev pub strict_words : List (List ℕ)
 strict_words = codes "implements" ∷ codes "interface" ∷ codes "package" ∷ codes "private" ∷ codes "protected" ∷ codes "public" ∷ codes "static" ∷ []
 
@@ -95,6 +98,7 @@ is_word roles.Break = true
 is_word roles.Continue = true
 is_word _ = false
 
+-- a word that strict code reserves, as a binding, a use or a label (12.1.1)
 abbrev pub e8 : Reading → Finding
 e8 x = where_so (is_word x.role && (x.flags.strict && has_text is_strict_word x.text)) x.name
 
@@ -102,24 +106,25 @@ e8 x = where_so (is_word x.role && (x.flags.strict && has_text is_strict_word x.
 abbrev pub e9 : Reading → Finding
 e9 x = if_so x.flags.constant (by_name x.bare)
 
--- a `return` outside any function (13.10, 15.1)
 abbrev pub is_return : Role → Bool
 is_return roles.Return = true
 is_return _ = false
 
+-- a `return` outside any function (13.10, 15.1)
 abbrev pub e10 : Reading → Finding
 e10 x = where_so (is_return x.role && not x.flags.function) None
 
--- a `break` without label outside loop and switch (13.9.1), a `continue` without label outside a loop (13.8.1)
+-- whether a `break` or `continue` stands outside of what it may leave
 abbrev pub is_stray : Role → Bool → Bool → Bool
 is_stray roles.Break looped breakable = not breakable
 is_stray roles.Continue looped breakable = not looped
 is_stray _ looped breakable = false
 
+-- a `break` without label outside loop and switch (13.9.1), a `continue` without label outside a loop (13.8.1)
 abbrev pub e11 : Reading → Finding
 e11 x = where_so (is_stray x.role x.flags.looped x.flags.breakable && not (is_some x.name)) None
 
--- a label of `break` that no statement around has (13.1.2), a label of `continue` that no loop around has (13.1.3)
+-- whether a statement around, or a loop, has the label
 abbrev pub is_around : ℕ → Bool → List Label → Bool
 is_around n loop labels = list_any (λ l. nat_eq l.name n && (l.looped || not loop)) labels
 
@@ -132,10 +137,10 @@ unknown_by roles.Break name labels = unknown name false labels
 unknown_by roles.Continue name labels = unknown name true labels
 unknown_by _ name labels = Holds
 
+-- a label of `break` that no statement around has (13.1.2), a label of `continue` that no loop around has (13.1.3)
 abbrev pub e12 : Reading → Finding
 e12 x = unknown_by x.role x.name x.labels
 
--- a label inside a statement of the same label (13.1.1)
 abbrev pub nested : Option ℕ → List Label → Finding
 nested (Some n) labels = where_so (is_around n false labels) (Some n)
 nested None labels = Holds
@@ -144,6 +149,7 @@ abbrev pub nested_by : Role → Option ℕ → List Label → Finding
 nested_by roles.Labelled name labels = nested name labels
 nested_by _ name labels = Holds
 
+-- a label inside a statement of the same label (13.1.1)
 abbrev pub e13 : Reading → Finding
 e13 x = nested_by x.role x.name x.labels
 
@@ -151,15 +157,16 @@ e13 x = nested_by x.role x.name x.labels
 abbrev pub e14 : Reading → Finding
 e14 x = by_name (shared x.caught x.block)
 
--- a name that the head of a for statement declares is a var name of its body (13.7.4.1, 13.7.5.1)
+-- what is found at a for statement
 abbrev pub at_for : Role → Finding → Finding
 at_for roles.For found = found
 at_for _ found = Holds
 
+-- a name that the head of a for statement declares is a var name of its body (13.7.4.1, 13.7.5.1)
 abbrev pub e15 : Reading → Finding
 e15 x = at_for x.role (by_name (shared x.lexicals x.vars))
 
--- a target is neither a name nor a member (12.4.1, 12.5.1, 12.14.1, 13.7.5.1)
+-- whether a node may be assigned to
 abbrev pub is_target : Role → Bool
 is_target roles.Use = true
 is_target roles.Property = true
@@ -167,33 +174,36 @@ is_target roles.Member = true
 is_target roles.Head = true
 is_target _ = false
 
+-- a target is neither a name nor a member (12.4.1, 12.5.1, 12.14.1, 13.7.5.1)
 abbrev pub e16 : Reading → Finding
 e16 x = where_so (not (is_target x.role) && x.flags.target) None
 
--- a binding, a use or a label is no identifier, or is reserved everywhere (11.6.2, 12.1); the name of a member is no
--- identifier name (11.6, 12.3)
 abbrev pub is_identifier : List ℕ → Bool
 is_identifier t = not (is_some (word_named t)) && is_name (chars t)
 
 abbrev pub is_member_name : List ℕ → Bool
 is_member_name t = is_name (chars t)
 
+-- whether the name in a node is none for it, where there is one
 abbrev pub misnamed : Role → Bool → Option (List ℕ) → Bool
 misnamed roles.Property there text = not (has_text is_member_name text)
 misnamed r there text = is_word r && (there && not (has_text is_identifier text))
 
+-- a binding, a use or a label is no identifier, or is reserved everywhere (11.6.2, 12.1); the name of a member is no
+-- identifier name (11.6, 12.3)
 abbrev pub e17 : Reading → Finding
 e17 x = where_so (misnamed x.role (is_some x.name) x.text) x.name
 
--- the raw text of a directive stands between no quotes (11.8.4), that of a template between no backticks (11.8.6)
 abbrev pub is_quoted : List ℕ → Bool
 is_quoted t = is_some (quote_of t)
 
+-- whether the raw text in a node can't be spelled
 abbrev pub is_unspelled : Role → Option (List ℕ) → Bool
 is_unspelled roles.Directive text = not (has_text is_quoted text)
 is_unspelled roles.Template text = not (has_text is_one_template text)
 is_unspelled _ text = false
 
+-- the raw text of a directive stands between no quotes (11.8.4), that of a template between no backticks (11.8.6)
 abbrev pub e18 : Reading → Finding
 e18 x = where_so (is_unspelled x.role x.text) None
 
