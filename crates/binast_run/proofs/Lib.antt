@@ -1,10 +1,10 @@
 pub mod EagerKept
+pub mod EagerWhole
 pub mod ExactNamed
 pub mod FileAnswers
-pub mod FirstAtoms
-pub mod FirstKinds
-pub mod FirstWhole
 pub mod InGrammar
+pub mod LazyAtoms
+pub mod LazyKinds
 pub mod NamedTrees
 pub mod NodesSpelled
 pub mod OneAnswer
@@ -12,4 +12,5 @@ pub mod OneTree
 pub mod OutputLemmas
 pub mod Outputs
 pub mod ReadFile
+pub mod SizeSpelled
 pub mod SourceAnswers

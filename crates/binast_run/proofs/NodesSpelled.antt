@@ -12,7 +12,7 @@ use Rattle.var_numbers.specs.Varnum.{varnum}
 use Rattle.var_numbers.proofs.VarnumLemmas.{varnum-nonempty}
 use Rattle.container.specs.Spelled.{framed, spelled, spelled_at, spelled_fields, spelled_items}
 use Rattle.container.specs.Tables.{Tables, kind_place}
-use Rattle.binast_run.proofs.FirstWhole.{child_fits, listed_fits}
+use Rattle.binast_run.proofs.EagerWhole.{child_fits, listed_fits}
 
 -- a frame only adds bytes
 framed_more : (f : FieldType) (bytes : List ℕ) → length bytes ≤ length (framed f bytes)
