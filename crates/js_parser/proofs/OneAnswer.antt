@@ -1,7 +1,7 @@
 -- Why a text comes to one thing alone.
-use Rattle.std.proofs.Common.{◌≡◌, ℕ, List, [], ◌∷◌, Option, Some, None, Result, refl, sym, ap, ◌∙◌, subst, length}
+use Rattle.std.proofs.Common.{◌≡◌, ℕ, List, [], ◌∷◌, Option, Some, None, Result, Ok, Err, ◌≤◌, ◌<◌, refl, sym, ap, ◌∙◌, subst, length}
 use Rattle.bast_base.specs.declared.errors.NameId.{NameId}
-use Rattle.bast_schema.specs.Tree.{Tree}
+use Rattle.bast_schema.specs.Tree.{Tree, depth}
 use Rattle.js_machine.specs.Lookahead.{seen}
 use Rattle.js_machine.specs.Machine.{Outcome, Accepted, Stopped, Ends, start}
 use Rattle.js_machine.specs.declared.events.Event.{Event}
@@ -9,16 +9,19 @@ use Rattle.js_machine.specs.declared.stops.Stop.{Stop}
 use Rattle.js_machine.proofs.Ended.{one_end}
 use Rattle.js_parser.specs.Laws.{Answer, uncut, stopped, made, IsAnswer}
 use Rattle.js_parser.specs.Leaves.{AreLeaves, IsLeafOf, Stands, raw_of, text_of, with_texts}
-use Rattle.js_parser.specs.Source.{IsSource, IsTokenFault, StopsAt}
+use Rattle.js_parser.specs.Source.{IsImage, IsSource, IsTokenFault, StopsAt}
 use Rattle.js_tokens.specs.Heads.{with_heads}
 use Rattle.js_tokens.specs.Tokens.{AreTokens}
 use Rattle.js_tokens.specs.declared.kinds.Token.{Token}
 use Rattle.js_tokens.specs.declared.kinds.TokenFault.{TokenFault}
 use Rattle.js_tokens.proofs.OneCut.{one_cut, one_fault, not_both}
 use Rattle.js_tree.specs.Image.{tree_of}
-use Rattle.js_tree.specs.Nodes.{limited}
+use Rattle.js_tree.specs.Nodes.{Maker, limited, unlimited}
 use Rattle.js_tree.specs.declared.fault.Fault.{Fault}
+use Rattle.js_tree.specs.declared.fault.Fault.TheVariants.{TooDeep}
 use Rattle.js_tree.specs.declared.leaf.Leaf.{Leaf}
+use Rattle.js_tree.proofs.FollowImage.{deep_trees, trees_are_same}
+use Rattle.js_tree.proofs.TreesHold.{trees_are_shallow}
 
 same_tokens : (text : List ℕ) (ts us : List Token) → AreTokens text ts → AreTokens text us → ts ≡ us
 same_tokens text ts us h k = h.1.1 ∙ ap with_heads (one_cut h.1.0 k.1.0) ∙ sym k.1.1
@@ -62,15 +65,37 @@ same_leaves text entries (t ∷ ts) [] ms p q = absurd p
 same_leaves text entries (t ∷ ts) (l ∷ ls) [] p q = absurd q
 same_leaves text entries (t ∷ ts) (l ∷ ls) (m ∷ ms) p q = ap (λ x. x ∷ ls) (same_leaf text entries t l m p.0 q.0) ∙ ap (λ xs. m ∷ xs) (same_leaves text entries ts ls ms p.1 q.1)
 
-pub one_tree : (text : List ℕ) (old new fresh : List (Option (List ℕ))) (one other : Result Tree Fault)
-    → IsSource text old new one → IsSource text old fresh other → (new ≡ fresh) × (one ≡ other)
-one_tree text old new fresh one other p q =
+-- two images of one text are images of the same steps and the same tokens, over the same table
+record AreSame (text : List ℕ) (old new fresh : List (Option (List ℕ))) (es fs : List Event) (ls ms : List Leaf) : Type 0 where
+  table : new ≡ fresh
+  events : es ≡ fs
+  leaves : ls ≡ ms
+
+same_steps : (m n : Maker) (text : List ℕ) (old new fresh : List (Option (List ℕ))) (one other : Result Tree Fault) (p : IsImage m text old new one) (q : IsImage n text old fresh other)
+    → AreSame text old new fresh p.events q.events p.leaves q.leaves
+same_steps m n text old new fresh one other p q =
     let ts = same_tokens text q.tokens p.tokens q.are_tokens p.are_tokens
     in let es = same_events (same_end text p.tokens q.tokens (Accepted p.events) (Accepted q.events) ts p.accepted q.accepted)
     in let table : new ≡ fresh = p.table ∙ ap (with_texts text old) (sym ts) ∙ sym q.table
     in let moved = subst (λ ts. AreLeaves text new ts q.leaves) ts (subst (λ es. AreLeaves text es q.tokens q.leaves) (sym table) q.are_leaves)
-    in let ls = same_leaves text new p.tokens p.leaves q.leaves p.are_leaves moved
-    in (table, sym p.image ∙ ap (λ ls. tree_of limited ls p.events) ls ∙ ap (tree_of limited q.leaves) es ∙ q.image)
+    in record { table = table; events = es; leaves = same_leaves text new p.tokens p.leaves q.leaves p.are_leaves moved }
+
+pub shallow_source : (text : List ℕ) (old new : List (Option (List ℕ))) (t : Tree) → IsSource text old new (Ok t) → IsImage unlimited text old new (Ok t) × (depth t ≤ 512)
+shallow_source text old new t p = (
+  record { tokens = p.tokens; events = p.events; leaves = p.leaves; are_tokens = p.are_tokens; accepted = p.accepted; table = p.table; are_leaves = p.are_leaves; image = trees_are_same text p.tokens p.leaves p.events t p.accepted p.image },
+  trees_are_shallow p.leaves p.events t p.image,
+)
+
+pub deep_source : (text : List ℕ) (old new fresh : List (Option (List ℕ))) (t : Tree) → IsSource text old new (Err TooDeep) → IsImage unlimited text old fresh (Ok t) → 512 < depth t
+deep_source text old new fresh t p q =
+    let s = same_steps limited unlimited text old new fresh (Err TooDeep) (Ok t) p q
+    in deep_trees text p.tokens p.leaves p.events t p.accepted p.image (ap (λ ls. tree_of unlimited ls p.events) s.leaves ∙ ap (tree_of unlimited q.leaves) s.events ∙ q.image)
+
+pub one_tree : (text : List ℕ) (old new fresh : List (Option (List ℕ))) (one other : Result Tree Fault)
+    → IsSource text old new one → IsSource text old fresh other → (new ≡ fresh) × (one ≡ other)
+one_tree text old new fresh one other p q =
+    let s = same_steps limited limited text old new fresh one other p q
+    in (s.table, sym p.image ∙ ap (λ ls. tree_of limited ls p.events) s.leaves ∙ ap (tree_of limited q.leaves) s.events ∙ q.image)
 
 cut_has_no_fault : (text : List ℕ) (ts : List Token) (fault : TokenFault) → AreTokens text ts → IsTokenFault text fault → ⊥
 cut_has_no_fault text ts fault h k = not_both h.1.0 k.first

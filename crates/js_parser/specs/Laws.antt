@@ -1,10 +1,12 @@
 -- What a text comes to is one.
-use Rattle.std.specs.Prelude.{◌≡◌, ℕ, List, Option, Result}
-use Rattle.bast_schema.specs.Tree.{Tree}
+use Rattle.std.specs.Prelude.{◌≡◌, ◌≤◌, ◌<◌, ℕ, List, Option, Result, Ok, Err}
+use Rattle.bast_schema.specs.Tree.{Tree, depth}
 use Rattle.js_machine.specs.declared.stops.Stop.{Stop}
-use Rattle.js_parser.specs.Source.{IsSource, IsTokenFault, StopsAt}
+use Rattle.js_parser.specs.Source.{IsImage, IsSource, IsTokenFault, StopsAt}
 use Rattle.js_tokens.specs.declared.kinds.TokenFault.{TokenFault}
+use Rattle.js_tree.specs.Nodes.{unlimited}
 use Rattle.js_tree.specs.declared.fault.Fault.{Fault}
+use Rattle.js_tree.specs.declared.fault.Fault.TheVariants.{TooDeep}
 
 -- what a text comes to over a table: it is not cut into tokens, or the machine stops at one of them, or there is a new table
 -- and a tree, or the reason why the steps have none
@@ -26,3 +28,11 @@ HasOneAnswer = (text : List ℕ) (old : List (Option (List ℕ))) (one other : A
 abbrev pub HasOneTree : Type 0
 HasOneTree = (text : List ℕ) (old new fresh : List (Option (List ℕ))) (one other : Result Tree Fault)
     → IsSource text old new one → IsSource text old fresh other → (new ≡ fresh) × (one ≡ other)
+
+-- the tree of a source is its image without a limit on the depth, and at most 512 deep
+abbrev pub SourcesAreShallow : Type 0
+SourcesAreShallow = (text : List ℕ) (old new : List (Option (List ℕ))) (t : Tree) → IsSource text old new (Ok t) → IsImage unlimited text old new (Ok t) × (depth t ≤ 512)
+
+-- a source that is refused for its depth has an image without the limit that is deeper, where it has one
+abbrev pub RefusedAreDeep : Type 0
+RefusedAreDeep = (text : List ℕ) (old new fresh : List (Option (List ℕ))) (t : Tree) → IsSource text old new (Err TooDeep) → IsImage unlimited text old fresh (Ok t) → 512 < depth t

@@ -14,14 +14,14 @@ use Rattle.js_tokens.specs.declared.kinds.Token.{Token}
 use Rattle.js_tokens.specs.declared.kinds.TokenFault.{TokenFault}
 use Rattle.js_tokens.specs.declared.kinds.TokenFault.TheVariants as token
 use Rattle.js_tree.specs.Image.{tree_of}
-use Rattle.js_tree.specs.Nodes.{limited}
+use Rattle.js_tree.specs.Nodes.{Maker, limited}
 use Rattle.js_tree.specs.declared.fault.Fault.{Fault}
 use Rattle.js_tree.specs.declared.fault.Fault.TheVariants as faults
 use Rattle.js_tree.specs.declared.leaf.Leaf.{Leaf}
 
 -- what stands for a text whose tokens the machine accepts, over a table to which the texts of its tokens were added, in
 -- their order: the image of the machine's steps, which is a tree, or why it is none
-pub record IsSource (text : List ℕ) (old new : List (Option (List ℕ))) (made : Result Tree Fault) : Type 0 where
+pub record IsImage (m : Maker) (text : List ℕ) (old new : List (Option (List ℕ))) (made : Result Tree Fault) : Type 0 where
   pub tokens : List Token
   pub events : List Event
   pub leaves : List Leaf
@@ -29,7 +29,11 @@ pub record IsSource (text : List ℕ) (old new : List (Option (List ℕ))) (made
   pub accepted : Ends text tokens (Accepted events)
   pub table : new ≡ with_texts text old tokens
   pub are_leaves : AreLeaves text new tokens leaves
-  pub image : tree_of limited leaves events ≡ made
+  pub image : tree_of m leaves events ≡ made
+
+-- the image of which no node is more than 512 deep
+abbrev pub IsSource : List ℕ → List (Option (List ℕ)) → List (Option (List ℕ)) → Result Tree Fault → Type 0
+IsSource = IsImage limited
 
 -- the machine stops at the tokens of the text
 pub record StopsAt (text : List ℕ) (stop : Stop) : Type 0 where

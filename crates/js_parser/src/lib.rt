@@ -5,7 +5,7 @@ mod laws;
 mod leaves;
 mod source;
 
-pub use laws::sources_have_one_tree;
+pub use laws::{limit_refuses_deep_sources, sources_have_one_tree};
 pub use source::{SourceFault, parse};
 
 #[cfg(test)]

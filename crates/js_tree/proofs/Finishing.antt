@@ -1,18 +1,16 @@
 -- What a row makes of what was gathered holds what was gathered.
-use Rattle.std.proofs.Common.{◌≡◌, ℕ, ◌==◌, cond, Bool, true, false, not, ◌&&◌, length, List, [], ◌∷◌, Option, Some, None, Result, Ok, Err, refl}
-use Rattle.bast_schema.specs.declared.kind.Kind.{Kind}
+use Rattle.std.proofs.Common.{◌≡◌, ℕ, ◌==◌, cond, Bool, true, false, length, List, [], ◌∷◌, Option, Some, None, Result, Ok, refl}
 use Rattle.bast_schema.specs.declared.kind.Kind.TheVariants as kinds
 use Rattle.bast_schema.specs.Counts.{join}
-use Rattle.bast_schema.specs.Fields.{has_lazy}
-use Rattle.bast_schema.specs.Tree.{Tree, Datum, child, absent, listed, flag, name, choice, Data, none, more, count, is_none}
+use Rattle.bast_schema.specs.Tree.{Tree, Datum, child, absent, listed, name, choice, Data, none, more, count, is_none}
 use Rattle.js_grammar.specs.declared.symbols.RowId.{RowId}
 use Rattle.js_grammar.specs.declared.symbols.RowId.TheVariants as rows
 use Rattle.js_machine.specs.declared.events.Event.{Event}
 use Rattle.js_machine.specs.declared.events.Event.TheVariants.{Row, Took, Inserted}
-use Rattle.js_tree.specs.Finishes.{Finished, finish_on, folds, statement, shorthand, property, filled, fills, for_kind, declaration, left_of, bound, binds, declaring, declares, arrow_body, try_kind, tries, sequence, instead, add_item, is_default, before_default, from_default, switch_of, switch, parameters}
-use Rattle.js_tree.specs.Image.{row_part, leaf_part, event_part, image, root, tree_of}
+use Rattle.js_tree.specs.Finishes.{finish_on, folds, statement, shorthand, property, filled, fills, for_kind, declaration, left_of, bound, binds, declaring, declares, arrow_body, tries, sequence, instead, add_item, is_default, before_default, from_default, switch_of, switch, parameters}
+use Rattle.js_tree.specs.Image.{row_part, leaf_part, event_part, image, root}
 use Rattle.js_tree.specs.Nodes.{Maker, one, two, identifier, one_parameter, parameters_or, parameters_of, no_names, no_parameter_names, contents_of, stands, ended, folded}
-use Rattle.js_tree.specs.Parts.{first_value, one_value, node_in, one_node, last_behind, last_value, one_ending, taken_values}
+use Rattle.js_tree.specs.Parts.{first_value, one_value, one_node, last_behind, last_value, one_ending, taken_values}
 use Rattle.js_tree.specs.Recipes.{recipe}
 use Rattle.js_tree.specs.Results.{◌>>=◌, there, broken}
 use Rattle.js_tree.specs.Steps.{gathered, no_work}
@@ -29,7 +27,7 @@ use Rattle.js_tree.specs.declared.recipe.Declared.TheVariants as declared
 use Rattle.js_tree.specs.declared.recipe.Finish.{Finish}
 use Rattle.js_tree.specs.declared.recipe.Finish.TheVariants as finishes
 use Rattle.js_tree.specs.declared.work.Work.{Work}
-use Rattle.js_tree.proofs.Holding.{Holds, then, each_result, Each, is_made, Kept, HoldsName, HoldsLeaf, HoldsForm, HoldsEnding, HoldsEndings, HoldsItems, HoldsPart, HoldsParts, HoldsWork, each_join, endings_join, node_made, name_made}
+use Rattle.js_tree.proofs.Holding.{Holds, then, each_result, Each, is_made, Kept, HoldsLeaf, HoldsForm, HoldsEnding, HoldsEndings, HoldsParts, HoldsWork, each_join, node_made, name_made}
 use Rattle.js_tree.proofs.Gathering.{Got, ValuesTaken, values_taken, first_taken, one_taken, one_node_taken, no_names_held, no_parameters_held, all_made_by, all_got}
 
 -- a tree of which it holds
@@ -61,7 +59,7 @@ unfolding contents_of
 contents_held m P kept params body h k =
     then (Has P) (Has P) (m kinds.AssertedParameterScope no_parameter_names) _ (node_made m P kept kinds.AssertedParameterScope no_parameter_names refl (no_parameters_held m P kept))
     (λ scope is. then (Has P) (Has P) (m kinds.AssertedVarScope no_names) (λ vars. m kinds.FunctionContents (more (child scope) (more (child params) (more (child vars) body)))) (node_made m P kept kinds.AssertedVarScope no_names refl (no_names_held m P kept))
-        (λ vars iv. node_made m P kept kinds.FunctionContents (more (child scope) (more (child params) (more (child vars) body))) refl (is, (h, (iv, k)))))
+    (λ vars iv. node_made m P kept kinds.FunctionContents (more (child scope) (more (child params) (more (child vars) body))) refl (is, (h, (iv, k)))))
 
 label_held : (m : Maker) (P : Datum → Type 0) → Kept m P → (t : Tree) (o : Option ℕ) → identifier t ≡ o → P (child t) → Holds P (there o >>= λ n. Ok (name n))
 label_held m P kept t None e h = tt
@@ -77,7 +75,7 @@ stands_held m P kept (forms.Contents body) t f h =
 stands_held m P kept forms.Label t f h = label_held m P kept t (identifier t) refl h
 stands_held m P kept (forms.Declared ds) t f h = tt
 
-ended_held : (m : Maker) (P : Datum → Type 0) → Kept m P → (e : Ending) (t : Tree) → HoldsEnding P e → P (child t) → Holds (Has P) (ended m e t)
+pub ended_held : (m : Maker) (P : Datum → Type 0) → Kept m P → (e : Ending) (t : Tree) → HoldsEnding P e → P (child t) → Holds (Has P) (ended m e t)
 unfolding ended
 ended_held m P kept (endings.Around k form before behind) t e h =
     then P (Has P) (stands m form t) (λ d. m k (join before (more d behind))) (stands_held m P kept form t e.1 h)
@@ -97,7 +95,7 @@ unfolding folds
 folds_held m P kept w ps h k =
     either (HoldsParts P) (length w.endings == 0) (Ok (parts.Values w.values w.raw ∷ ps)) _ ((h.values, h.raw), k)
     (then (Has P) (HoldsParts P) (one_node w.values) (λ t. folded m w.endings t >>= λ t. Ok (parts.Values (one (child t)) None ∷ ps)) (one_node_taken P w.values h.values)
-        (λ t it. made_end P (folded m w.endings t) ps (folded_held m P kept w.endings t h.endings it) k))
+    (λ t it. made_end P (folded m w.endings t) ps (folded_held m P kept w.endings t h.endings it) k))
 
 statement_held : (m : Maker) (P : Datum → Type 0) → Kept m P → (w : Work) (ps : List Part) → HoldsWork P w → HoldsParts P ps → Holds (HoldsParts P) (statement m w ps)
 unfolding statement
@@ -111,12 +109,12 @@ shorthand_held m P kept ds h =
     then (λ t. m kinds.IdentifierExpression ds ≡ Ok t) (Has P) (m kinds.IdentifierExpression ds) (λ t. m kinds.ShorthandProperty (one (child t))) (each_result (λ t. m kinds.IdentifierExpression ds ≡ Ok t) (m kinds.IdentifierExpression ds) (λ t e. e))
     (λ t it. each_result (Has P) (m kinds.ShorthandProperty (one (child t))) (λ u e. kept.shorthand ds t u h it e))
 
-property_held : (m : Maker) (P : Datum → Type 0) → Kept m P → (w : Work) (ps : List Part) → HoldsWork P w → HoldsParts P ps → Holds (HoldsParts P) (property m w ps)
+pub property_held : (m : Maker) (P : Datum → Type 0) → Kept m P → (w : Work) (ps : List Part) → HoldsWork P w → HoldsParts P ps → Holds (HoldsParts P) (property m w ps)
 unfolding property
 property_held m P kept w ps h k =
     either (HoldsParts P) (length w.endings == 0) _ _ (made_end P (shorthand m w.values) ps (shorthand_held m P kept w.values h.values) k)
     (then (Has P) (HoldsParts P) (m kinds.LiteralPropertyName w.values) (λ t. folded m w.endings t >>= λ t. Ok (parts.Values (one (child t)) None ∷ ps)) (node_made m P kept kinds.LiteralPropertyName w.values refl h.values)
-        (λ t it. made_end P (folded m w.endings t) ps (folded_held m P kept w.endings t h.endings it) k))
+    (λ t it. made_end P (folded m w.endings t) ps (folded_held m P kept w.endings t h.endings it) k))
 
 filled_held : (P : Datum → Type 0) (e : Ending) (d : Datum) (ps : List Part) → HoldsEnding P e → P d → HoldsParts P ps → Holds (HoldsParts P) (filled e d ps)
 filled_held P (endings.Around j form before behind) d ps e h k = (((e.0, tt, each_join P before (more d behind) e.2 (h, e.3), tt), tt), k)
@@ -138,7 +136,7 @@ left_held m P kept how b forms.Plain h k = node_made m P kept kinds.ForInOfBindi
 left_held m P kept how b (forms.Declared ds) h k =
     then (λ f. P f.0 × Each P f.1) (Has P) (first_value ds) (λ f. m kinds.VariableDeclarator (two b f.0) >>= λ d. declaration m how (more (child d) f.1)) (first_taken P ds k)
     (λ f jf. then (Has P) (Has P) (m kinds.VariableDeclarator (two b f.0)) (λ d. declaration m how (more (child d) f.1)) (node_made m P kept kinds.VariableDeclarator (two b f.0) refl (h, (jf.0, tt)))
-        (λ d id. declaration_held m P kept how (more (child d) f.1) (id, jf.1)))
+    (λ d id. declaration_held m P kept how (more (child d) f.1) (id, jf.1)))
 left_held m P kept how b forms.Parameters h k = tt
 left_held m P kept how b (forms.Contents body) h k = tt
 left_held m P kept how b forms.Label h k = tt
@@ -180,7 +178,7 @@ unfolding sequence
 sequence_held m P kept w ps h k =
     either (HoldsParts P) (is_none w.values) (Ok (parts.Values w.held w.raw ∷ ps)) _ ((h.held, h.raw), k)
     (made_end P (m kinds.SequenceExpression (join w.held (one (listed w.values)))) ps
-        (node_made m P kept kinds.SequenceExpression (join w.held (one (listed w.values))) refl (each_join P w.held (one (listed w.values)) h.held (kept.list w.values h.values, tt))) k)
+    (node_made m P kept kinds.SequenceExpression (join w.held (one (listed w.values))) refl (each_join P w.held (one (listed w.values)) h.held (kept.list w.values h.values, tt))) k)
 
 instead_held : (P : Datum → Type 0) (w : Work) (ps : List Part) → HoldsWork P w → HoldsParts P ps → Holds (HoldsParts P) (instead w ps)
 unfolding instead
@@ -261,7 +259,7 @@ finish_held m P kept finishes.Switch w ps is h k = switch_held m P kept w ps h k
 finish_held m P kept finishes.Parameters w ps is h k = all_parameters_held m P kept w ps h k
 
 -- no row makes a kind that is lazy
-row_makes : (r : RowId) → (all_made_by (recipe r).0 ≡ true) × (is_finished_by (recipe r).1 ≡ true)
+pub row_makes : (r : RowId) → (all_made_by (recipe r).0 ≡ true) × (is_finished_by (recipe r).1 ≡ true)
 row_makes rows.Script = (refl, refl)
 row_makes rows.Items = (refl, refl)
 row_makes rows.ItemsEmpty = (refl, refl)
@@ -433,7 +431,7 @@ row_makes rows.TplRest = (refl, refl)
 row_makes rows.TplMoreMiddle = (refl, refl)
 row_makes rows.TplMoreTail = (refl, refl)
 
-nothing : (P : Datum → Type 0) → HoldsWork P no_work
+pub nothing : (P : Datum → Type 0) → HoldsWork P no_work
 nothing P = record { values = tt; held = tt; directives = tt; raw = tt; endings = tt; items = tt }
 
 row_held : (m : Maker) (P : Datum → Type 0) → Kept m P → (r : RowId) (ps : List Part) → HoldsParts P ps → Holds (HoldsParts P) (row_part m r ps)

@@ -1,18 +1,17 @@
 -- What the steps of a recipe gather holds what the parts hold.
-use Rattle.std.proofs.Common.{◌≡◌, ℕ, Bool, true, false, not, ◌&&◌, List, [], ◌∷◌, ◌++◌, Option, Some, None, Result, Ok, Err, refl, sym}
+use Rattle.std.proofs.Common.{◌≡◌, Bool, true, false, not, ◌&&◌, List, [], ◌∷◌, ◌++◌, Option, Some, None, Result, Ok, refl, sym}
 use Rattle.bast_base.specs.declared.errors.NameId.{NameId}
 use Rattle.bast_schema.specs.declared.kind.EnumId.{EnumId}
 use Rattle.bast_schema.specs.declared.kind.Kind.{Kind}
 use Rattle.bast_schema.specs.declared.kind.Kind.TheVariants as kinds
 use Rattle.bast_schema.specs.Counts.{join}
 use Rattle.bast_schema.specs.Fields.{has_lazy}
-use Rattle.bast_schema.specs.Tree.{Tree, Datum, child, absent, listed, flag, index, whole, name, no_name, choice, window, Data, none, more, is_none}
-use Rattle.js_tokens.specs.declared.kinds.TokenKind.{TokenKind}
+use Rattle.bast_schema.specs.Tree.{Tree, Datum, child, absent, listed, flag, index, whole, name, no_name, choice, window, Data, none, more}
 use Rattle.js_tree.specs.Nodes.{Maker, one, two, no_names, no_parameter_names, statements, behind_directive, behind_directives, directives, directives_from}
 use Rattle.js_tree.specs.Operators.{operator}
 use Rattle.js_tree.specs.Parts.{first_value, one_value, node_in, one_node, without_top, taken_leaf, taken_values, taken_endings, taken_items}
-use Rattle.js_tree.specs.Results.{◌>>=◌, there, broken}
-use Rattle.js_tree.specs.Steps.{Gathered, gather, gathered, with_value, with_node, step_on, skip, put, operand, wrap, text, number, whole_number, named, quoted, with_operator, parameter_of, parameter, template_part, tail, rest, with_statements, body, hold, resume, closed}
+use Rattle.js_tree.specs.Results.{◌>>=◌, there}
+use Rattle.js_tree.specs.Steps.{gathered, with_value, with_node, step_on, skip, put, operand, wrap, text, number, whole_number, named, quoted, with_operator, parameter_of, parameter, template_part, tail, rest, with_statements, body, hold, resume, closed}
 use Rattle.js_tree.specs.declared.fault.Fault.{Fault}
 use Rattle.js_tree.specs.declared.leaf.Leaf.{Leaf}
 use Rattle.js_tree.specs.declared.parts.Part.{Part}
@@ -155,8 +154,8 @@ unfolding quoted
 quoted_got m P kept w ps h k =
     then (LeafTaken P) (Got P) (taken_leaf ps) _ (leaf_taken P ps k)
     (λ l r. then (λ n. P (name n.0)) (Got P) (there l.0.text) _ (name_there P l.0.text r.0.0)
-        (λ n s. then (λ t. P (child t)) (Got P) (m kinds.LiteralStringExpression (one (name n.0))) (λ t. Ok (record w { values = join w.values (one (child t)); raw = l.0.raw }, l.1)) (name_made m P kept kinds.LiteralStringExpression n.0 refl s)
-            (λ t it. (with_raw P (record w { values = join w.values (one (child t)) }) l.0.raw (with_values P w (one (child t)) h (it, tt)) r.0.1, r.1))))
+    (λ n s. then (λ t. P (child t)) (Got P) (m kinds.LiteralStringExpression (one (name n.0))) (λ t. Ok (record w { values = join w.values (one (child t)); raw = l.0.raw }, l.1)) (name_made m P kept kinds.LiteralStringExpression n.0 refl s)
+    (λ t it. (with_raw P (record w { values = join w.values (one (child t)) }) l.0.raw (with_values P w (one (child t)) h (it, tt)) r.0.1, r.1))))
 
 operator_got : (m : Maker) (P : Datum → Type 0) → Kept m P → (e : EnumId) (w : Work) (ps : List Part) → HoldsWork P w → HoldsParts P ps → Holds (Got P) (with_operator e w ps)
 unfolding with_operator
@@ -181,20 +180,20 @@ unfolding parameter
 parameter_got m P kept w ps h k =
     then (LeafTaken P) (Got P) (taken_leaf ps) _ (leaf_taken P ps k)
     (λ l r. then (λ n. P (name n.0)) (Got P) (there l.0.text) _ (name_there P l.0.text r.0.0)
-        (λ n s. then (λ t. P (child t)) (Got P) (m kinds.BindingIdentifier (one (name n.0))) _ (name_made m P kept kinds.BindingIdentifier n.0 refl s)
-            (λ b ib. then (ValuesTaken P) (Got P) (taken_values l.1) _ (values_taken P l.1 r.1)
-                (λ v iv. then P (Got P) (one_value v.0.0) (λ d. with_node (parameter_of m b d) w v.1) (one_taken P v.0.0 iv.0.0)
-                    (λ d id. node_got P (parameter_of m b d) w v.1 (initialized m P kept b d ib id) h iv.1)))))
+    (λ n s. then (λ t. P (child t)) (Got P) (m kinds.BindingIdentifier (one (name n.0))) _ (name_made m P kept kinds.BindingIdentifier n.0 refl s)
+    (λ b ib. then (ValuesTaken P) (Got P) (taken_values l.1) _ (values_taken P l.1 r.1)
+    (λ v iv. then P (Got P) (one_value v.0.0) (λ d. with_node (parameter_of m b d) w v.1) (one_taken P v.0.0 iv.0.0)
+    (λ d id. node_got P (parameter_of m b d) w v.1 (initialized m P kept b d ib id) h iv.1)))))
 
 template_got : (m : Maker) (P : Datum → Type 0) → Kept m P → (w : Work) (ps : List Part) → HoldsWork P w → HoldsParts P ps → Holds (Got P) (template_part m w ps)
 unfolding template_part
 template_got m P kept w ps h k =
     then (ValuesTaken P) (Got P) (taken_values ps) _ (values_taken P ps k)
     (λ e ie. then P (Got P) (one_value e.0.0) _ (one_taken P e.0.0 ie.0.0)
-        (λ d id. then (ValuesTaken P) (Got P) (taken_values e.1) _ (values_taken P e.1 ie.1)
-            (λ v iv. then (λ f. P f.0 × Each P f.1) (Got P) (first_value v.0.0) _ (first_taken P v.0.0 iv.0.0)
-                (λ f jf. then (λ t. P (child t)) (Got P) (m kinds.TemplatePart (two d f.0)) (λ t. Ok (record w { values = join w.values (more (child t) f.1) }, v.1)) (node_made m P kept kinds.TemplatePart (two d f.0) refl (id, (jf.0, tt)))
-                    (λ t it. (with_values P w (more (child t) f.1) h (it, jf.1), iv.1))))))
+    (λ d id. then (ValuesTaken P) (Got P) (taken_values e.1) _ (values_taken P e.1 ie.1)
+    (λ v iv. then (λ f. P f.0 × Each P f.1) (Got P) (first_value v.0.0) _ (first_taken P v.0.0 iv.0.0)
+    (λ f jf. then (λ t. P (child t)) (Got P) (m kinds.TemplatePart (two d f.0)) (λ t. Ok (record w { values = join w.values (more (child t) f.1) }, v.1)) (node_made m P kept kinds.TemplatePart (two d f.0) refl (id, (jf.0, tt)))
+    (λ t it. (with_values P w (more (child t) f.1) h (it, jf.1), iv.1))))))
 
 tail_got : (P : Datum → Type 0) (w : Work) (ps : List Part) → HoldsWork P w → HoldsParts P ps → Holds (Got P) (tail w ps)
 unfolding tail
@@ -241,9 +240,17 @@ unfolding body
 body_got m P kept w ps h k =
     then (ItemsTaken P) (Got P) (taken_items ps) _ (items_taken P ps k)
     (λ i r. then (Each P) (Got P) (directives m i.0) (λ ds. Ok (record w { values = join w.values (one (listed (statements (behind_directives i.0)))); directives = ds }, i.1)) (directives_held m P kept i.0 r.0)
-        (λ ds id. (record {
-            values = each_join P w.values (one (listed (statements (behind_directives i.0)))) h.values (kept.list (statements (behind_directives i.0)) (statements_held P (behind_directives i.0) (directives_behind P i.0 r.0)), tt);
-            held = h.held; directives = id; raw = h.raw; endings = h.endings; items = h.items }, r.1)))
+    (λ ds id. (
+      record {
+        values = each_join P w.values (one (listed (statements (behind_directives i.0)))) h.values (kept.list (statements (behind_directives i.0)) (statements_held P (behind_directives i.0) (directives_behind P i.0 r.0)), tt);
+        held = h.held;
+        directives = id;
+        raw = h.raw;
+        endings = h.endings;
+        items = h.items;
+      },
+      r.1,
+    )))
 
 hold_got : (P : Datum → Type 0) (w : Work) → HoldsWork P w → HoldsWork P (hold w)
 unfolding hold
@@ -253,7 +260,12 @@ resume_got : (m : Maker) (P : Datum → Type 0) → Kept m P → (w : Work) → 
 unfolding resume
 resume_got m P kept w h = record {
   values = each_join P w.held (more (listed w.directives) w.values) h.held (kept.list w.directives h.directives, h.values);
-  held = tt; directives = tt; raw = h.raw; endings = h.endings; items = h.items }
+  held = tt;
+  directives = tt;
+  raw = h.raw;
+  endings = h.endings;
+  items = h.items;
+}
 
 closed_got : (m : Maker) (P : Datum → Type 0) → Kept m P → (j : Kind) → is_made j ≡ true → (w : Work) → HoldsWork P w → Holds (HoldsWork P) (closed m j w)
 unfolding closed

@@ -1,6 +1,5 @@
 -- How many values a row's own part has beyond those that were gathered.
-use Rattle.std.proofs.Common.{◌≡◌, ◌≤◌, ◌<◌, ◌+◌, ◌==◌, ℕ, cond, Bool, true, false, length, List, [], ◌∷◌, ◌++◌, reverse, Option, Some, None, Result, Ok, Err, refl, sym, ap, ◌∙◌, subst, arith}
-use Rattle.bast_schema.specs.declared.kind.Kind.{Kind}
+use Rattle.std.proofs.Common.{◌≡◌, ◌≤◌, ◌+◌, ◌==◌, ℕ, cond, Bool, true, false, length, List, [], ◌∷◌, reverse, Option, Some, None, Result, Ok, refl, sym, ap, arith}
 use Rattle.bast_schema.specs.declared.kind.Kind.TheVariants as kinds
 use Rattle.bast_schema.specs.Counts.{join, size, size_at, size_in}
 use Rattle.bast_schema.specs.Kinds.{same_kind}
@@ -9,7 +8,7 @@ use Rattle.js_grammar.specs.declared.symbols.RowId.{RowId}
 use Rattle.js_machine.specs.Laws.{rows_among}
 use Rattle.js_machine.specs.declared.events.Event.{Event}
 use Rattle.js_machine.specs.declared.events.Event.TheVariants.{Row, Took, Inserted}
-use Rattle.js_tree.specs.Finishes.{Finished, finish_on, folds, statement, shorthand, property, filled, fills, for_kind, declaration, left_of, bound, binds, declaring, declares, arrow_body, tries, sequence, instead, add_item, is_default, before_default, from_default, switch_of, switch, parameters}
+use Rattle.js_tree.specs.Finishes.{finish_on, folds, statement, shorthand, property, filled, fills, for_kind, declaration, left_of, bound, binds, declaring, declares, arrow_body, tries, sequence, instead, add_item, is_default, before_default, from_default, switch_of, switch, parameters}
 use Rattle.js_tree.specs.Image.{row_part, leaf_part, event_part, image, root, tree_of}
 use Rattle.js_tree.specs.Nodes.{Maker, one, two, identifier, first_name, limited, one_parameter, parameters_or, parameters_of, no_names, no_parameter_names, contents_of, stands, ended, folded}
 use Rattle.js_tree.specs.Parts.{first_value, one_value, one_node, last_behind, last_value, one_ending, taken_values}
@@ -29,8 +28,8 @@ use Rattle.js_tree.specs.declared.recipe.Declared.TheVariants as declared
 use Rattle.js_tree.specs.declared.recipe.Finish.{Finish}
 use Rattle.js_tree.specs.declared.recipe.Finish.TheVariants as finishes
 use Rattle.js_tree.specs.declared.work.Work.{Work}
-use Rattle.js_tree.proofs.Holding.{Holds, then, each_result}
-use Rattle.js_tree.proofs.Hefts.{Sized, heft_form, heft_ending, heft_endings, heft_items, heft_part, heft_parts, heft_work, size_join, Got, ValuesLeft, PartsLeft, TreeOf, values_left, first_left, one_left, up_to, one_node_left, node_made, nothing_of, steps_cost, all_got}
+use Rattle.js_tree.proofs.Holding.{Holds, then}
+use Rattle.js_tree.proofs.Hefts.{Sized, heft_form, heft_ending, heft_endings, heft_parts, heft_work, size_join, Got, ValuesLeft, PartsLeft, TreeOf, values_left, first_left, one_left, up_to, one_node_left, node_made, steps_cost, all_got}
 use Rattle.js_tree.proofs.TreesHold.{limited_made, held_in}
 
 either : {A : Type 0} (Q : A → Type 0) (b : Bool) (r s : Result A Fault) → Holds Q r → Holds Q s → Holds Q (cond b r s)
@@ -82,7 +81,7 @@ unfolding contents_of
 contents_size m sized params body n le =
     then (TreeOf 4) (TreeOf n) (m kinds.AssertedParameterScope no_parameter_names) _ (node_made m sized kinds.AssertedParameterScope no_parameter_names 4 (omega arith))
     (λ scope is. then (TreeOf 3) (TreeOf n) (m kinds.AssertedVarScope no_names) (λ vars. m kinds.FunctionContents (more (child scope) (more (child params) (more (child vars) body)))) (node_made m sized kinds.AssertedVarScope no_names 3 (omega arith))
-        (λ vars iv. node_made m sized kinds.FunctionContents (more (child scope) (more (child params) (more (child vars) body))) n (omega (arith, is, iv))))
+    (λ vars iv. node_made m sized kinds.FunctionContents (more (child scope) (more (child params) (more (child vars) body))) n (omega (arith, is, iv))))
 
 stands_size : (m : Maker) → Sized m → (f : Form) (t : Tree) → Holds (λ d. size_at d ≤ heft_form f + size t) (stands m f t)
 unfolding stands
@@ -118,7 +117,7 @@ unfolding folds
 folds_left m sized w ps n le =
     either (PartsLeft n) (length w.endings == 0) (Ok (parts.Values w.values w.raw ∷ ps)) _ (omega arith)
     (then (TreeOf (size_in w.values)) (PartsLeft n) (one_node w.values) (λ t. folded m w.endings t >>= λ t. Ok (parts.Values (one (child t)) None ∷ ps)) (one_node_left w.values)
-        (λ t it. made_end (folded m w.endings t) ps (heft_endings w.endings + size_in w.values) n (folded_size m sized w.endings t (heft_endings w.endings + size_in w.values) (omega (arith, it))) (omega arith)))
+    (λ t it. made_end (folded m w.endings t) ps (heft_endings w.endings + size_in w.values) n (folded_size m sized w.endings t (heft_endings w.endings + size_in w.values) (omega (arith, it))) (omega arith)))
 
 statement_left : (m : Maker) → Sized m → (w : Work) (ps : List Part) (n : ℕ) → heft_work w + heft_parts ps + 1 ≤ n → Holds (PartsLeft n) (statement m w ps)
 unfolding statement
@@ -137,7 +136,7 @@ unfolding property
 property_left m sized w ps n le =
     either (PartsLeft n) (length w.endings == 0) _ _ (made_end (shorthand m w.values) ps (2 + size_in w.values) n (shorthand_size m sized w.values) (omega arith))
     (then (TreeOf (1 + size_in w.values)) (PartsLeft n) (m kinds.LiteralPropertyName w.values) (λ t. folded m w.endings t >>= λ t. Ok (parts.Values (one (child t)) None ∷ ps)) (node_made m sized kinds.LiteralPropertyName w.values (1 + size_in w.values) (omega arith))
-        (λ t it. made_end (folded m w.endings t) ps (heft_endings w.endings + 1 + size_in w.values) n (folded_size m sized w.endings t (heft_endings w.endings + 1 + size_in w.values) (omega (arith, it))) (omega arith)))
+    (λ t it. made_end (folded m w.endings t) ps (heft_endings w.endings + 1 + size_in w.values) n (folded_size m sized w.endings t (heft_endings w.endings + 1 + size_in w.values) (omega (arith, it))) (omega arith)))
 
 filled_left : (e : Ending) (d : Datum) (ps : List Part) (n : ℕ) → heft_ending e + size_at d + heft_parts ps ≤ n → Holds (PartsLeft n) (filled e d ps)
 filled_left (endings.Around j form before behind) d ps n le = omega (arith, size_join before (more d behind))
@@ -159,7 +158,7 @@ left_size m sized how b forms.Plain n le = node_made m sized kinds.ForInOfBindin
 left_size m sized how b (forms.Declared ds) n le =
     then (λ f. size_at f.0 + size_in f.1 ≤ size_in ds) (TreeOf n) (first_value ds) (λ f. m kinds.VariableDeclarator (two b f.0) >>= λ d. declaration m how (more (child d) f.1)) (first_left ds)
     (λ f jf. then (TreeOf (1 + size_at b + size_at f.0)) (TreeOf n) (m kinds.VariableDeclarator (two b f.0)) (λ d. declaration m how (more (child d) f.1)) (node_made m sized kinds.VariableDeclarator (two b f.0) (1 + size_at b + size_at f.0) (omega arith))
-        (λ d id. up_to (3 + size_in (more (child d) f.1)) n (declaration m how (more (child d) f.1)) (omega (arith, id, jf)) (declaration_size m sized how (more (child d) f.1))))
+    (λ d id. up_to (3 + size_in (more (child d) f.1)) n (declaration m how (more (child d) f.1)) (omega (arith, id, jf)) (declaration_size m sized how (more (child d) f.1))))
 left_size m sized how b forms.Parameters n le = tt
 left_size m sized how b (forms.Contents body) n le = tt
 left_size m sized how b forms.Label n le = tt
@@ -198,7 +197,7 @@ unfolding sequence
 sequence_left m sized w ps n le =
     either (PartsLeft n) (is_none w.values) (Ok (parts.Values w.held w.raw ∷ ps)) _ (omega arith)
     (made_end (m kinds.SequenceExpression (join w.held (one (listed w.values)))) ps (2 + size_in w.held + size_in w.values) n
-        (node_made m sized kinds.SequenceExpression (join w.held (one (listed w.values))) (2 + size_in w.held + size_in w.values) (omega (arith, size_join w.held (one (listed w.values))))) (omega arith))
+    (node_made m sized kinds.SequenceExpression (join w.held (one (listed w.values))) (2 + size_in w.held + size_in w.values) (omega (arith, size_join w.held (one (listed w.values))))) (omega arith))
 
 instead_left : (w : Work) (ps : List Part) (n : ℕ) → heft_work w + heft_parts ps ≤ n → Holds (PartsLeft n) (instead w ps)
 unfolding instead

@@ -1,25 +1,16 @@
 -- How many values a row adds to those of its symbols' parts.
-use Rattle.std.proofs.Common.{◌≡◌, ◌≤◌, ◌<◌, ◌+◌, ◌==◌, ℕ, cond, Bool, true, false, length, List, [], ◌∷◌, ◌++◌, Option, Some, None, Result, Ok, Err, refl, sym, ap, ◌∙◌, subst, arith}
+use Rattle.std.proofs.Common.{◌≡◌, ◌≤◌, ◌+◌, ℕ, List, [], ◌∷◌, ◌++◌, Option, Some, None, Result, Ok, Err, refl, arith}
 use Rattle.bast_base.specs.declared.errors.NameId.{NameId}
 use Rattle.bast_schema.specs.declared.kind.EnumId.{EnumId}
 use Rattle.bast_schema.specs.declared.kind.Kind.{Kind}
 use Rattle.bast_schema.specs.declared.kind.Kind.TheVariants as kinds
 use Rattle.bast_schema.specs.Counts.{join, size, size_at, size_in}
-use Rattle.bast_schema.specs.Kinds.{same_kind}
-use Rattle.bast_schema.specs.Tree.{Tree, branch, Datum, child, absent, listed, flag, index, whole, name, no_name, choice, window, Data, none, more, count, is_none}
-use Rattle.js_grammar.specs.declared.symbols.RowId.{RowId}
-use Rattle.js_machine.specs.Laws.{rows_among}
-use Rattle.js_machine.specs.declared.events.Event.{Event}
-use Rattle.js_machine.specs.declared.events.Event.TheVariants.{Row, Took, Inserted}
-use Rattle.js_tokens.specs.declared.kinds.TokenKind.{TokenKind}
-use Rattle.js_tree.specs.Finishes.{Finished, finish_on, folds, statement, shorthand, property, filled, fills, for_kind, declaration, left_of, bound, binds, declaring, declares, arrow_body, tries, sequence, instead, add_item, is_default, before_default, from_default, switch_of, switch, parameters}
-use Rattle.js_tree.specs.Image.{row_part, leaf_part, event_part, image, root, tree_of}
-use Rattle.js_tree.specs.Nodes.{Maker, one, two, identifier, first_name, one_parameter, parameters_or, parameters_of, no_names, no_parameter_names, contents_of, stands, ended, folded, statements, behind_directive, behind_directives, directives, directives_from}
+use Rattle.bast_schema.specs.Tree.{Tree, branch, Datum, child, absent, listed, flag, index, whole, name, no_name, choice, window, Data, none, more}
+use Rattle.js_tree.specs.Nodes.{Maker, one, two, no_names, no_parameter_names, statements, behind_directive, behind_directives, directives, directives_from}
 use Rattle.js_tree.specs.Operators.{operator}
-use Rattle.js_tree.specs.Parts.{first_value, one_value, node_in, one_node, last_behind, last_value, one_ending, without_top, taken_leaf, taken_values, taken_endings, taken_items}
-use Rattle.js_tree.specs.Recipes.{recipe}
-use Rattle.js_tree.specs.Results.{◌>>=◌, there, broken}
-use Rattle.js_tree.specs.Steps.{Gathered, gather, gathered, no_work, with_value, with_node, step_on, skip, put, operand, wrap, text, number, whole_number, named, quoted, with_operator, parameter_of, parameter, template_part, tail, rest, with_statements, body, hold, resume, closed}
+use Rattle.js_tree.specs.Parts.{first_value, one_value, node_in, one_node, without_top, taken_leaf, taken_values, taken_endings, taken_items}
+use Rattle.js_tree.specs.Results.{◌>>=◌, there}
+use Rattle.js_tree.specs.Steps.{gathered, with_value, with_node, step_on, skip, put, operand, wrap, text, number, whole_number, named, quoted, with_operator, parameter_of, parameter, template_part, tail, rest, with_statements, body, hold, resume, closed}
 use Rattle.js_tree.specs.declared.fault.Fault.{Fault}
 use Rattle.js_tree.specs.declared.leaf.Leaf.{Leaf}
 use Rattle.js_tree.specs.declared.parts.Part.{Part}
@@ -29,10 +20,6 @@ use Rattle.js_tree.specs.declared.parts.Form.TheVariants as forms
 use Rattle.js_tree.specs.declared.parts.Ending.{Ending}
 use Rattle.js_tree.specs.declared.parts.Ending.TheVariants as endings
 use Rattle.js_tree.specs.declared.parts.Item.{Item}
-use Rattle.js_tree.specs.declared.recipe.Declared.{Declared}
-use Rattle.js_tree.specs.declared.recipe.Declared.TheVariants as declared
-use Rattle.js_tree.specs.declared.recipe.Finish.{Finish}
-use Rattle.js_tree.specs.declared.recipe.Finish.TheVariants as finishes
 use Rattle.js_tree.specs.declared.recipe.Step.{Step}
 use Rattle.js_tree.specs.declared.recipe.Step.TheVariants as steps
 use Rattle.js_tree.specs.declared.work.Work.{Work}
@@ -220,15 +207,15 @@ unfolding named
 named_got m sized j w ps n le =
     then (LeafLeft (heft_parts ps)) (Got n) (taken_leaf ps) (λ l. there l.0.text >>= λ x. with_node (m j (one (name x.0))) w l.1) (leaf_left ps)
     (λ l r. then (λ x. Unit {0}) (Got n) (there l.0.text) (λ x. with_node (m j (one (name x.0))) w l.1) (nothing_of (there l.0.text))
-        (λ x u. node_got (m j (one (name x.0))) w l.1 2 n (node_made m sized j (one (name x.0)) 2 (omega arith)) (omega (arith, r))))
+    (λ x u. node_got (m j (one (name x.0))) w l.1 2 n (node_made m sized j (one (name x.0)) 2 (omega arith)) (omega (arith, r))))
 
 quoted_got : (m : Maker) → Sized m → (w : Work) (ps : List Part) (n : ℕ) → heft_work w + heft_parts ps + 2 ≤ n → Holds (Got n) (quoted m w ps)
 unfolding quoted
 quoted_got m sized w ps n le =
     then (LeafLeft (heft_parts ps)) (Got n) (taken_leaf ps) _ (leaf_left ps)
     (λ l r. then (λ x. Unit {0}) (Got n) (there l.0.text) _ (nothing_of (there l.0.text))
-        (λ x u. then (TreeOf 2) (Got n) (m kinds.LiteralStringExpression (one (name x.0))) (λ t. Ok (record w { values = join w.values (one (child t)); raw = l.0.raw }, l.1)) (node_made m sized kinds.LiteralStringExpression (one (name x.0)) 2 (omega arith))
-            (λ t it. omega (arith, r, it, size_join w.values (one (child t))))))
+    (λ x u. then (TreeOf 2) (Got n) (m kinds.LiteralStringExpression (one (name x.0))) (λ t. Ok (record w { values = join w.values (one (child t)); raw = l.0.raw }, l.1)) (node_made m sized kinds.LiteralStringExpression (one (name x.0)) 2 (omega arith))
+    (λ t it. omega (arith, r, it, size_join w.values (one (child t))))))
 
 operator_got : (e : EnumId) (w : Work) (ps : List Part) (n : ℕ) → heft_work w + heft_parts ps + 1 ≤ n → Holds (Got n) (with_operator e w ps)
 unfolding with_operator
@@ -253,21 +240,21 @@ unfolding parameter
 parameter_got m sized w ps n le =
     then (LeafLeft (heft_parts ps)) (Got n) (taken_leaf ps) _ (leaf_left ps)
     (λ l r. then (λ x. Unit {0}) (Got n) (there l.0.text) _ (nothing_of (there l.0.text))
-        (λ x u. then (TreeOf 2) (Got n) (m kinds.BindingIdentifier (one (name x.0))) _ (node_made m sized kinds.BindingIdentifier (one (name x.0)) 2 (omega arith))
-            (λ b ib. then (ValuesLeft (heft_parts l.1)) (Got n) (taken_values l.1) _ (values_left l.1)
-                (λ v iv. then (λ d. size_at d ≤ size_in v.0.0) (Got n) (one_value v.0.0) (λ d. with_node (parameter_of m b d) w v.1) (one_left v.0.0)
-                    (λ d id. node_got (parameter_of m b d) w v.1 (3 + size_at d) n (initialized m sized b d (3 + size_at d) (omega (arith, ib))) (omega (arith, r, iv, id)))))))
+    (λ x u. then (TreeOf 2) (Got n) (m kinds.BindingIdentifier (one (name x.0))) _ (node_made m sized kinds.BindingIdentifier (one (name x.0)) 2 (omega arith))
+    (λ b ib. then (ValuesLeft (heft_parts l.1)) (Got n) (taken_values l.1) _ (values_left l.1)
+    (λ v iv. then (λ d. size_at d ≤ size_in v.0.0) (Got n) (one_value v.0.0) (λ d. with_node (parameter_of m b d) w v.1) (one_left v.0.0)
+    (λ d id. node_got (parameter_of m b d) w v.1 (3 + size_at d) n (initialized m sized b d (3 + size_at d) (omega (arith, ib))) (omega (arith, r, iv, id)))))))
 
 template_got : (m : Maker) → Sized m → (w : Work) (ps : List Part) (n : ℕ) → heft_work w + heft_parts ps + 1 ≤ n → Holds (Got n) (template_part m w ps)
 unfolding template_part
 template_got m sized w ps n le =
     then (ValuesLeft (heft_parts ps)) (Got n) (taken_values ps) _ (values_left ps)
     (λ e ie. then (λ d. size_at d ≤ size_in e.0.0) (Got n) (one_value e.0.0) _ (one_left e.0.0)
-        (λ d id. then (ValuesLeft (heft_parts e.1)) (Got n) (taken_values e.1) _ (values_left e.1)
-            (λ v iv. then (λ f. size_at f.0 + size_in f.1 ≤ size_in v.0.0) (Got n) (first_value v.0.0) _ (first_left v.0.0)
-                (λ f jf. then (TreeOf (1 + size_at d + size_at f.0)) (Got n) (m kinds.TemplatePart (two d f.0)) (λ t. Ok (record w { values = join w.values (more (child t) f.1) }, v.1))
-                    (node_made m sized kinds.TemplatePart (two d f.0) (1 + size_at d + size_at f.0) (omega arith))
-                    (λ t it. omega (arith, ie, id, iv, jf, it, size_join w.values (more (child t) f.1)))))))
+    (λ d id. then (ValuesLeft (heft_parts e.1)) (Got n) (taken_values e.1) _ (values_left e.1)
+    (λ v iv. then (λ f. size_at f.0 + size_in f.1 ≤ size_in v.0.0) (Got n) (first_value v.0.0) _ (first_left v.0.0)
+    (λ f jf. then (TreeOf (1 + size_at d + size_at f.0)) (Got n) (m kinds.TemplatePart (two d f.0)) (λ t. Ok (record w { values = join w.values (more (child t) f.1) }, v.1))
+    (node_made m sized kinds.TemplatePart (two d f.0) (1 + size_at d + size_at f.0) (omega arith))
+    (λ t it. omega (arith, ie, id, iv, jf, it, size_join w.values (more (child t) f.1)))))))
 
 tail_got : (w : Work) (ps : List Part) (n : ℕ) → heft_work w + heft_parts ps ≤ n → Holds (Got n) (tail w ps)
 unfolding tail
@@ -307,7 +294,7 @@ unfolding body
 body_got m sized w ps n le =
     then (ItemsLeft (heft_parts ps)) (Got n) (taken_items ps) _ (items_left ps)
     (λ i r. then (Parted i.0 (heft_items i.0)) (Got n) (directives m i.0) (λ ds. Ok (record w { values = join w.values (one (listed (statements (behind_directives i.0)))); directives = ds }, i.1)) (parted_items m sized i.0)
-        (λ ds id. omega (arith, r, id, size_join w.values (one (listed (statements (behind_directives i.0)))))))
+    (λ ds id. omega (arith, r, id, size_join w.values (one (listed (statements (behind_directives i.0)))))))
 
 hold_got : (w : Work) → heft_work (hold w) ≤ heft_work w
 unfolding hold

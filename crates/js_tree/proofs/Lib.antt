@@ -1,9 +1,17 @@
 pub mod Broken
 pub mod Finishing
+pub mod FollowAll
+pub mod FollowFinishes
+pub mod FollowImage
+pub mod FollowRows
+pub mod FollowSteps
+pub mod Following
 pub mod Gathering
 pub mod HeftFinishes
 pub mod Hefts
 pub mod Holding
+pub mod Laying
+pub mod Leading
 pub mod Payments
 pub mod Runs
 pub mod Scripts

@@ -1,15 +1,14 @@
 -- How many values the rows of a derivation add for each token that it takes.
-use Rattle.std.proofs.Common.{◌≡◌, ◌≤◌, ◌<◌, ◌+◌, ◌*◌, ℕ, zero, suc, Bool, true, false, ◌&&◌, length, get_or, List, [], ◌∷◌, ◌++◌, map, Option, Some, None, Result, Ok, Err, refl, sym, ap, ◌∙◌, subst, arith}
+use Rattle.std.proofs.Common.{◌≡◌, ◌≤◌, ◌<◌, ◌+◌, ◌*◌, ℕ, zero, suc, Bool, true, false, ◌&&◌, length, List, [], ◌∷◌, ◌++◌, Ok, refl, ap, ◌∙◌, subst, arith}
 use Rattle.std.specs.Prelude.{nat_le}
 use Rattle.std.specs.List.{Contains, list_all}
 use Rattle.std.proofs.lemmas.Bool.{leb-true}
 use Rattle.std.proofs.lemmas.List.{length-map}
 use Rattle.bast_schema.specs.Counts.{size}
 use Rattle.bast_schema.specs.Tree.{Tree}
-use Rattle.js_grammar.specs.Derivation.{Leaf as GrammarLeaf, token, counted, Derives, nothing, takes, semicolon, counts, expands}
+use Rattle.js_grammar.specs.Derivation.{Leaf as GrammarLeaf, Derives, nothing, takes, semicolon, counts, expands}
 use Rattle.js_grammar.specs.Rows.{alternatives, row_symbols}
 use Rattle.js_grammar.specs.TokenClasses.{class_in}
-use Rattle.js_grammar.specs.declared.class.Class.{Class}
 use Rattle.js_grammar.specs.declared.symbols.Level.TheVariants as levels
 use Rattle.js_grammar.specs.declared.symbols.RowId.{RowId}
 use Rattle.js_grammar.specs.declared.symbols.Symbol.{Symbol}

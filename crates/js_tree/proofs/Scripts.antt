@@ -1,10 +1,9 @@
 -- Why the tree of an accepted run is that of a script.
-use Rattle.std.proofs.Common.{◌≡◌, ◌==◌, ℕ, zero, suc, cond, Bool, true, false, length, get_or, List, [], ◌∷◌, ◌++◌, reverse, Option, Some, None, Result, Ok, Err, refl, sym, ap, ◌∙◌, subst, arith}
+use Rattle.std.proofs.Common.{◌≡◌, ◌==◌, ℕ, zero, suc, cond, Bool, true, false, length, List, [], ◌∷◌, ◌++◌, reverse, Result, Ok, refl, sym, ap, ◌∙◌, subst, arith}
 use Rattle.std.specs.List.{Contains}
-use Rattle.bast_base.specs.declared.errors.NameId.{NameId}
 use Rattle.bast_schema.specs.declared.kind.Kind.{Kind}
 use Rattle.bast_schema.specs.declared.kind.Kind.TheVariants as kinds
-use Rattle.bast_schema.specs.Tree.{Tree, branch, Datum, child, kind_of, Data, none, more, is_none}
+use Rattle.bast_schema.specs.Tree.{Tree, child, kind_of, Data}
 use Rattle.js_grammar.specs.Derivation.{Leaf as GrammarLeaf, Derives, nothing, takes, semicolon, counts, expands}
 use Rattle.js_grammar.specs.Rows.{alternatives}
 use Rattle.js_grammar.specs.declared.symbols.RowId.{RowId}
@@ -20,9 +19,9 @@ use Rattle.js_tokens.specs.declared.kinds.Token.{Token}
 use Rattle.js_tree.specs.Finishes.{finish_on}
 use Rattle.js_tree.specs.Image.{row_part, leaf_part, event_part, image, root, tree_of}
 use Rattle.js_tree.specs.Nodes.{one, limited}
-use Rattle.js_tree.specs.Parts.{node_in, one_node, taken_values}
+use Rattle.js_tree.specs.Parts.{one_node}
 use Rattle.js_tree.specs.Recipes.{recipe}
-use Rattle.js_tree.specs.Results.{◌>>=◌, broken}
+use Rattle.js_tree.specs.Results.{broken}
 use Rattle.js_tree.specs.Steps.{gathered, step_on, closed, no_work}
 use Rattle.js_tree.specs.declared.fault.Fault.{Fault}
 use Rattle.js_tree.specs.declared.leaf.Leaf.{Leaf}

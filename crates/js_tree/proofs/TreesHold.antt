@@ -1,17 +1,16 @@
 -- What holds of the trees that steps stand for.
-use Rattle.std.proofs.Common.{◌≡◌, ◌≤◌, ◌<◌, ◌+◌, ℕ, cond, Bool, true, false, not, ◌&&◌, ◌||◌, max, length, List, [], ◌∷◌, ◌++◌, reverse, Option, Some, None, Result, Ok, Err, refl, sym, ap, ◌∙◌, subst, arith}
+use Rattle.std.proofs.Common.{◌≡◌, ◌≤◌, ℕ, cond, Bool, true, false, not, ◌&&◌, ◌||◌, List, [], ◌∷◌, ◌++◌, reverse, Option, Some, None, Result, Ok, Err, refl, sym, ap, subst, arith}
 use Rattle.std.specs.Prelude.{nat_lt}
 use Rattle.std.proofs.lemmas.List.{reverse-append}
 use borrow.Author.Tests.{ltb-false}
 use Rattle.bast_base.specs.declared.errors.NameId.{NameId}
 use Rattle.bast_schema.specs.declared.kind.Kind.{Kind}
 use Rattle.bast_schema.specs.declared.kind.Kind.TheVariants as kinds
-use Rattle.bast_schema.specs.declared.node.NodeFault.{NodeFault}
-use Rattle.bast_schema.specs.declared.node.NodeFault.TheVariants.{Mistyped, TooDeep}
+use Rattle.bast_schema.specs.declared.node.NodeFault.TheVariants.{TooDeep}
 use Rattle.bast_schema.specs.Counts.{is_whole, is_whole_at, is_whole_in}
 use Rattle.bast_schema.specs.Fields.{fields, has_lazy}
-use Rattle.bast_schema.specs.Kinds.{same_kind, counted}
-use Rattle.bast_schema.specs.Made.{node_or, node_of}
+use Rattle.bast_schema.specs.Kinds.{same_kind}
+use Rattle.bast_schema.specs.Made.{node_or}
 use Rattle.bast_schema.specs.Tree.{Tree, branch, Datum, child, absent, listed, flag, index, whole, name, no_name, choice, window, Data, none, more, first_wrong, depth, depth_at, depth_in}
 use Rattle.js_machine.specs.declared.events.Event.{Event}
 use Rattle.bast_schema.specs.Eager.{is_eager, is_eager_at, are_eager}
@@ -19,11 +18,9 @@ use Rattle.js_tree.specs.Image.{image, root, tree_of}
 use Rattle.bast_schema.specs.NamesHold.{names_hold, names_hold_at, names_hold_in}
 use Rattle.js_tree.specs.Names.{IsNameIn, AreNamesIn}
 use Rattle.js_tree.specs.Nodes.{Maker, one, identifier, first_name, limited, of_node}
-use Rattle.js_tree.specs.Results.{◌>>=◌}
 use Rattle.js_tree.specs.declared.fault.Fault.{Fault}
 use Rattle.js_tree.specs.declared.leaf.Leaf.{Leaf}
-use Rattle.js_tree.specs.declared.parts.Part.{Part}
-use Rattle.js_tree.proofs.Holding.{Holds, then, each_result, Each, is_made, Kept, HoldsName}
+use Rattle.js_tree.proofs.Holding.{Holds, then, Each, Kept, HoldsName}
 use Rattle.js_tree.proofs.Finishing.{Has, HoldsLeaves, HoldsState, image_held, root_held}
 
 -- what is made with the limit is the node, and is at most 512 deep
@@ -66,7 +63,7 @@ any_name : (P : Datum → Type 0) → ((n : ℕ) → P (name n)) → (o : Option
 any_name P any None = tt
 any_name P any (Some n) = any n.0
 
-no_names_in : (P : Datum → Type 0) → ((n : ℕ) → P (name n)) → (ls : List Leaf) → HoldsLeaves P ls
+pub no_names_in : (P : Datum → Type 0) → ((n : ℕ) → P (name n)) → (ls : List Leaf) → HoldsLeaves P ls
 no_names_in P any [] = tt
 no_names_in P any (l ∷ ls) = ((any_name P any l.text, any_name P any l.raw), no_names_in P any ls)
 
@@ -92,7 +89,11 @@ whole_kept = record {
   shorthand = λ ds t u h made again. whole_node kinds.ShorthandProperty (one (child t)) u (whole_node kinds.IdentifierExpression ds t h made, tt) again;
   name_of = λ t n h e. refl;
   list = each_whole;
-  no_node = refl; no_label = refl; flags = λ b. refl; wholes = λ n. refl; choices = λ n. refl;
+  no_node = refl;
+  no_label = refl;
+  flags = λ b. refl;
+  wholes = λ n. refl;
+  choices = λ n. refl;
 }
 
 pub trees_are_whole : (ls : List Leaf) (es : List Event) (t : Tree) → tree_of limited ls es ≡ Ok t → is_whole t ≡ true
@@ -120,7 +121,11 @@ eager_kept = record {
   shorthand = λ ds t u h made again. eager_node kinds.ShorthandProperty (one (child t)) u refl (eager_node kinds.IdentifierExpression ds t refl h made, tt) again;
   name_of = λ t n h e. refl;
   list = each_eager;
-  no_node = refl; no_label = refl; flags = λ b. refl; wholes = λ n. refl; choices = λ n. refl;
+  no_node = refl;
+  no_label = refl;
+  flags = λ b. refl;
+  wholes = λ n. refl;
+  choices = λ n. refl;
 }
 
 pub trees_are_eager : (ls : List Leaf) (es : List Event) (t : Tree) → tree_of limited ls es ≡ Ok t → is_eager t ≡ true
@@ -171,7 +176,11 @@ names_kept p = record {
   shorthand = λ ds t u h made again. named_node p kinds.ShorthandProperty (one (child t)) u (named_node p kinds.IdentifierExpression ds t h made, tt) again;
   name_of = name_of_tree p;
   list = each_named p;
-  no_node = refl; no_label = refl; flags = λ b. refl; wholes = λ n. refl; choices = λ n. refl;
+  no_node = refl;
+  no_label = refl;
+  flags = λ b. refl;
+  wholes = λ n. refl;
+  choices = λ n. refl;
 }
 
 of_name : (p : ℕ → Bool) (o : Option NameId) → IsNameIn p o → HoldsName (IsNamed p) o
@@ -203,7 +212,11 @@ shallow_kept = record {
   shorthand = λ ds t u h made again. shallow_node kinds.ShorthandProperty (one (child t)) u again;
   name_of = λ t n h e. omega arith;
   list = each_shallow;
-  no_node = omega arith; no_label = omega arith; flags = λ b. omega arith; wholes = λ n. omega arith; choices = λ n. omega arith;
+  no_node = omega arith;
+  no_label = omega arith;
+  flags = λ b. omega arith;
+  wholes = λ n. omega arith;
+  choices = λ n. omega arith;
 }
 
 pub trees_are_shallow : (ls : List Leaf) (es : List Event) (t : Tree) → tree_of limited ls es ≡ Ok t → depth t ≤ 512

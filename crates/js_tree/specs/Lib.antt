@@ -1,5 +1,6 @@
 pub mod Finishes
 pub mod Image
+pub mod Leads
 pub mod Names
 pub mod Nodes
 pub mod Operators

@@ -1,5 +1,5 @@
 -- What holds of the tree that steps stand for.
-use Rattle.std.specs.Prelude.{◌≡◌, ◌≤◌, ◌<◌, ◌*◌, ℕ, Bool, true, List, length, Ok}
+use Rattle.std.specs.Prelude.{◌≡◌, ◌≤◌, ◌<◌, ◌*◌, ℕ, Bool, true, List, length, Ok, Err}
 use Rattle.bast_schema.specs.Counts.{is_whole, size}
 use Rattle.bast_schema.specs.declared.kind.Kind.TheVariants.{Script}
 use Rattle.bast_schema.specs.Tree.{Tree, depth, kind_of}
@@ -11,6 +11,7 @@ use Rattle.js_tree.specs.Image.{tree_of}
 use Rattle.bast_schema.specs.NamesHold.{names_hold}
 use Rattle.js_tree.specs.Names.{AreNamesIn}
 use Rattle.js_tree.specs.Nodes.{limited, unlimited}
+use Rattle.js_tree.specs.declared.fault.Fault.TheVariants.{TooDeep}
 use Rattle.js_tree.specs.declared.leaf.Leaf.{Leaf}
 
 -- no window stands in it
@@ -36,3 +37,11 @@ TreesAreScripts = (text : List ℕ) (ts : List Token) (ls : List Leaf) (es : Lis
 -- it has fewer values than seven for each token
 abbrev pub TreesAreSmall : Type 0
 TreesAreSmall = (text : List ℕ) (ts : List Token) (ls : List Leaf) (es : List Event) (t : Tree) → Ends text ts (Accepted es) → tree_of limited ls es ≡ Ok t → size t < 7 * length ts
+
+-- the tree of an accepted run with the limit is the one without it
+abbrev pub LimitedAreSame : Type 0
+LimitedAreSame = (text : List ℕ) (ts : List Token) (ls : List Leaf) (es : List Event) (t : Tree) → Ends text ts (Accepted es) → tree_of limited ls es ≡ Ok t → tree_of unlimited ls es ≡ Ok t
+
+-- and where the limit refuses it, the one without it is more than 512 deep: what is made is never left out of the tree
+abbrev pub RefusedAreDeep : Type 0
+RefusedAreDeep = (text : List ℕ) (ts : List Token) (ls : List Leaf) (es : List Event) (t : Tree) → Ends text ts (Accepted es) → tree_of limited ls es ≡ Err TooDeep → tree_of unlimited ls es ≡ Ok t → 512 < depth t

@@ -20,4 +20,4 @@ mod work;
 pub use build::build_tree;
 pub use fault::Fault;
 pub use leaf::Leaf;
-pub use tree_laws::trees_hold;
+pub use tree_laws::{limit_refuses_deep_trees, trees_hold};

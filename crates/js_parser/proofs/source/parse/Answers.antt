@@ -31,8 +31,8 @@ returns-in-Ok-build_tree-clause-small c =
     let few : length c.in-Ok.tokens.items ≤ length c.args.text.now + 1 = c.in-Ok.ensures.few in
     let same : length c.deref.result.now ≡ length c.in-Ok.tokens.items = ap length c.deref.ensures.value in
     let less : size c.in-Ok-build_tree.tree < 7 * length c.deref.result.now =
-        trees_are_small c.args.text.now _ c.in-Ok-leaves_of.leaves.items c.in-Ok-derive.events.items c.in-Ok-build_tree.tree c.in-Ok-derive.ensures.accepted
-        (subst (λ es. tree_of limited c.in-Ok-leaves_of.leaves.items es ≡ Ok c.in-Ok-build_tree.tree) c.deref-3.ensures.value c.in-Ok-build_tree.ensures) in
+    trees_are_small c.args.text.now _ c.in-Ok-leaves_of.leaves.items c.in-Ok-derive.events.items c.in-Ok-build_tree.tree c.in-Ok-derive.ensures.accepted
+    (subst (λ es. tree_of limited c.in-Ok-leaves_of.leaves.items es ≡ Ok c.in-Ok-build_tree.tree) c.deref-3.ensures.value c.in-Ok-build_tree.ensures) in
     omega (arith, few, same, less)
 
 pub returns-in-Ok-build_tree-clause-size : goal.returns-in-Ok-build_tree-clause-size
