@@ -6,7 +6,6 @@ pub mod InGrammar
 pub mod LazyAtoms
 pub mod LazyKinds
 pub mod NamedTrees
-pub mod NodesSpelled
 pub mod OneAnswer
 pub mod OneTree
 pub mod OutputLemmas
