@@ -1,33 +1,39 @@
 -- The three answers to a file.
-use Rattle.std.proofs.Common.{◌≡◌, ℕ, List, Option, Some, None, Result, Ok, subst, sym, ap, ◌∙◌}
+use Rattle.std.proofs.Common.{◌≡◌, ℕ, List, [], Option, Some, None, Result, Ok, refl, arith, subst, sym, ap, ◌∙◌}
 use Rattle.bast_base.specs.declared.errors.FormatFault.{FormatFault}
 use Rattle.bast_schema.specs.Tree.{Tree}
 use Rattle.container.specs.declared.layout.Layout.{Layout}
-use Rattle.binast_run.specs.FirstKinds.{first_other}
-use Rattle.binast_run.specs.Lines.{fault_line, not_yet_line}
+use Rattle.binast_run.specs.Judging.{first_violation}
+use Rattle.binast_run.specs.LazyKinds.{first_lazy}
+use Rattle.binast_run.specs.Lines.{fault_line}
 use Rattle.container.specs.Layout.{layout_of}
 use Rattle.tree_decoder.specs.Outcome.{Outcome}
 use Rattle.tree_decoder.specs.Outer.{tree_range}
 use Rattle.tree_decoder.proofs.OneScript.{one_script}
 use Rattle.binast_run.specs.Reading.{fault_in, first_fault, IsFileOfScript}
 use Rattle.binast_run.specs.Answer.{Answer, output, refusal}
-use Rattle.binast_run.specs.Result.{unless_other, AnswersFile, faulty, read}
+use Rattle.binast_run.specs.Result.{judged, unless_lazy, unless_untrue, AnswersFile, faulty, read}
 
 pub faulty_answer : (bytes : List ℕ) (text : Layout → Tree → List ℕ) (f : FormatFault) (a : Answer) (line : List ℕ)
     → first_fault bytes ≡ Some f → a ≡ refusal line → line ≡ fault_line f → AnswersFile bytes text a
 faulty_answer bytes text f a line is answer told = subst (λ (x : Answer). AnswersFile bytes text x) (sym (answer ∙ ap refusal told)) (faulty f is)
 
-pub other_answer : (bytes : List ℕ) (text : Layout → Tree → List ℕ) (l : Layout) (t : Tree) (node : ℕ) (a : Answer) (line : List ℕ)
-    → IsFileOfScript bytes l t → first_other t ≡ Some node → a ≡ refusal line → line ≡ not_yet_line node → AnswersFile bytes text a
-other_answer bytes text l t node a line is other answer told =
-    let same : unless_other (first_other t) (text l t) ≡ a = ap (λ (o : Option ℕ). unless_other o (text l t)) other ∙ sym (answer ∙ ap refusal told)
-    in subst (λ (x : Answer). AnswersFile bytes text x) same (read l t is)
+-- what a tree that was read comes to
+pub refused_answer : (bytes : List ℕ) (text : Layout → Tree → List ℕ) (l : Layout) (t : Tree) (a : Answer) → IsFileOfScript bytes l t → ((x : List ℕ) → judged l.strings t x ≡ a) → AnswersFile bytes text a
+refused_answer bytes text l t a is answer = subst (λ (x : Answer). AnswersFile bytes text x) (answer (text l t)) (read l t is)
 
 pub read_answer : (bytes : List ℕ) (text : Layout → Tree → List ℕ) (l : Layout) (t : Tree) (a : Answer) (made : List ℕ)
-    → IsFileOfScript bytes l t → first_other t ≡ None → a ≡ output made → made ≡ text l t → AnswersFile bytes text a
-read_answer bytes text l t a made is none answer told =
-    let same : unless_other (first_other t) (text l t) ≡ a = ap (λ (o : Option ℕ). unless_other o (text l t)) none ∙ sym (answer ∙ ap output told)
-    in subst (λ (x : Answer). AnswersFile bytes text x) same (read l t is)
+    → IsFileOfScript bytes l t → ((x : List ℕ) → judged l.strings t x ≡ output x) → a ≡ output made → made ≡ text l t → AnswersFile bytes text a
+read_answer bytes text l t a made is fine answer told =
+    subst (λ (x : Answer). AnswersFile bytes text x) (fine (text l t) ∙ sym (answer ∙ ap output told)) (read l t is)
+
+-- a tree that comes to an output has no lazy kind
+none_there : (o : Option ℕ) (a : Answer) (x : List ℕ) → unless_lazy o a ≡ output x → o ≡ None
+none_there None a x is = refl
+none_there (Some n) a x is = absurd (omega (arith, ap (λ (b : Answer). b.status) is))
+
+pub no_lazy : (texts : List (Option (List ℕ))) (t : Tree) → ((x : List ℕ) → judged texts t x ≡ output x) → first_lazy t ≡ None
+no_lazy texts t fine = none_there (first_lazy t) (unless_untrue texts (first_violation texts t) []) [] (fine [])
 
 -- a file has one answer
 one_ok : (r : Result Layout FormatFault) (l m : Layout) → r ≡ Ok l → r ≡ Ok m → l ≡ m
@@ -57,4 +63,4 @@ one_file_answer bytes text _ _ (faulty f p) (read l t q) = absurd (no_some f (sy
 one_file_answer bytes text _ _ (read l t p) (faulty f q) = absurd (no_some f (sym q ∙ no_fault bytes l t p))
 one_file_answer bytes text _ _ (read l t p) (read m u q) =
     let same = one_file bytes l m t u p q
-    in ap (λ (x : Layout). unless_other (first_other t) (text x t)) same.0 ∙ ap (λ (x : Tree). unless_other (first_other x) (text m x)) same.1
+    in ap (λ (x : Layout). judged x.strings t (text x t)) same.0 ∙ ap (λ (x : Tree). judged m.strings x (text m x)) same.1

@@ -8,7 +8,7 @@ use Rattle.container.specs.declared.layout.Layout.{Layout}
 use Rattle.container.specs.Atoms.{atoms}
 use Rattle.container.specs.InFile.{InFile}
 use Rattle.binast_run.specs.declared.command.Command.{Command}
-use Rattle.binast_run.specs.FirstKinds.{first_other}
+use Rattle.binast_run.specs.LazyKinds.{first_lazy}
 use Rattle.binast_run.specs.Reading.{first_fault, IsFileOfScript}
 use Rattle.binast_run.specs.Answer.{Answer, most_bytes}
 use Rattle.binast_run.specs.Result.{AnswersInput}
@@ -29,9 +29,9 @@ abbrev pub FilesHaveOneTree : Type 0
 FilesHaveOneTree = (bytes : List ℕ) (h g : Held) (t u : Tree) → InFile bytes h t → InFile bytes g u → atoms h t ≡ atoms g u
 
 -- a file in the grammar whose tree has the first kinds alone is read as such a tree
-abbrev pub FilesOfFirstKindsAreReadSo : Type 0
-FilesOfFirstKindsAreReadSo =
-    (bytes : List ℕ) (h : Held) (t : Tree) (l : Layout) (u : Tree) → InFile bytes h t → first_other t ≡ None → IsFileOfScript bytes l u → first_other u ≡ None
+abbrev pub FilesWithoutLazyKindsAreReadSo : Type 0
+FilesWithoutLazyKindsAreReadSo =
+    (bytes : List ℕ) (h : Held) (t : Tree) (l : Layout) (u : Tree) → InFile bytes h t → first_lazy t ≡ None → IsFileOfScript bytes l u → first_lazy u ≡ None
 
 -- an input has one answer of each command
 abbrev pub InputsHaveOneAnswer : Type 0

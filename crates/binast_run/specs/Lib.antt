@@ -1,6 +1,8 @@
 pub mod Answer
-pub mod FirstKinds
+pub mod FileLines
+pub mod Judging
 pub mod Laws
+pub mod LazyKinds
 pub mod Lines
 pub mod Outcome
 pub mod Output

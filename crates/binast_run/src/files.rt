@@ -1,13 +1,16 @@
 // The commands that read a file.
 ghost use Rattle.std.specs.Prelude.{◌≡◌, ◌≤◌, ◌+◌, ◌<◌, ◌^◌, length, sum, IsTrue, IfOk};
+ghost use Rattle.bast_schema.specs.Counts.{size};
 ghost use Rattle.bast_schema.specs.Tree.{nodes, typed};
 ghost use Rattle.js_printer.specs.Names.{is_named};
+ghost use Rattle.binast_run.specs.FileLines.{IsJudged};
 ghost use Rattle.binast_run.specs.Outcome.{answer_in};
 ghost use Rattle.binast_run.specs.Reading.{ReadsFile};
 ghost use Rattle.binast_run.specs.Result.{AnswersInput};
 ghost use Rattle.binast_run.specs.declared.command.Command.TheVariants.{Check, Decode};
 
-use crate::first_kinds::first_other_of;
+use crate::judging::{first_violation, violation_line};
+use crate::lazy_kinds::first_lazy_of;
 use crate::lines::{accepted_line, fault_line, not_yet_line};
 use crate::outcome::{Outcome, answered, refused};
 use bast_base::{Halt, Memory, Steps, Tape};
@@ -37,8 +40,8 @@ pub(crate) fn decode<L>(
     match file_of(alloc, tape, steps) {
         Err(Halt::Memory) => Err(Memory),
         Err(Halt::Format(fault)) => Ok(refused(fault_line(alloc, fault)?)),
-        Ok(file) => match first_other_of(&file.tree) {
-            Some(node) => Ok(refused(not_yet_line(alloc, node)?)),
+        Ok(file) => match refusal_of(alloc, &file)? {
+            Some(refusal) => Ok(refusal),
             None => Ok(answered(list_tree(alloc, &file.tree, &file.layout.strings)?)),
         },
     }
@@ -57,10 +60,26 @@ pub(crate) fn check<L>(
     match file_of(alloc, tape, steps) {
         Err(Halt::Memory) => Err(Memory),
         Err(Halt::Format(fault)) => Ok(refused(fault_line(alloc, fault)?)),
-        Ok(file) => match first_other_of(&file.tree) {
-            Some(node) => Ok(refused(not_yet_line(alloc, node)?)),
+        Ok(file) => match refusal_of(alloc, &file)? {
+            Some(refusal) => Ok(refusal),
             None => Ok(answered(accepted_line(alloc, tape.len())?)),
         },
+    }
+}
+
+// What refuses a tree that was read, where something does: a node of it is lazy, or a rule does not hold of it.
+fn refusal_of(alloc: Global, file: &File) -> Result<Option<Outcome>, Memory>
+    requires nodes { nodes file.now.tree < 2 ^ 32 }
+    requires size { size file.now.tree ≤ 2 ^ 30 }
+    ensures { IfOk result (λ refusal. IsJudged file.now.layout.strings file.now.tree refusal) }
+{
+    if let Some(node) = first_lazy_of(&file.tree) {
+        return Ok(Some(refused(not_yet_line(alloc, node)?)));
+    }
+    let strings = &file.layout.strings;
+    match first_violation(alloc, &file.tree, strings)? {
+        Some(violation) => Ok(Some(refused(violation_line(alloc, violation, strings)?))),
+        None => Ok(None),
     }
 }
 
@@ -71,6 +90,7 @@ fn file_of<L>(alloc: Global, tape: &Tape<L>, steps: &mut [Steps<L>]) -> Result<F
     ensures typed { IfOk result (λ file. IsTrue (typed file.tree)) }
     ensures named { IfOk result (λ file. IsTrue (is_named file.layout.strings file.tree)) }
     ensures nodes { IfOk result (λ file. nodes file.tree < 2 ^ 32) }
+    ensures size { IfOk result (λ file. size file.tree ≤ 2 ^ 30) }
     ensures cost { sum steps.new ≤ sum steps.old + length tape.now }
 {
     read_file(alloc, tape, &mut steps[0])
@@ -82,6 +102,7 @@ fn read_file<L>(alloc: Global, tape: &Tape<L>, steps: &mut Steps<L>) -> Result<F
     ensures typed { IfOk result (λ file. IsTrue (typed file.tree)) }
     ensures named { IfOk result (λ file. IsTrue (is_named file.layout.strings file.tree)) }
     ensures nodes { IfOk result (λ file. nodes file.tree < 2 ^ 32) }
+    ensures size { IfOk result (λ file. size file.tree ≤ 2 ^ 30) }
     ensures cost { steps.new ≤ steps.old + length tape.now }
 {
     // A tape is told to be short by its length.

@@ -1,5 +1,5 @@
 // What holds of the definitions alone.
-ghost use Rattle.binast_run.specs.Laws.{FilesHaveOneTree, FilesInGrammarHaveNoFault, FilesOfFirstKindsAreReadSo, FilesAreReadAsOneTree, FilesThatAreReadAreInGrammar, InputsHaveOneAnswer};
+ghost use Rattle.binast_run.specs.Laws.{FilesHaveOneTree, FilesInGrammarHaveNoFault, FilesWithoutLazyKindsAreReadSo, FilesAreReadAsOneTree, FilesThatAreReadAreInGrammar, InputsHaveOneAnswer};
 
 /// A file that is read as a tree without windows is in the grammar of files, and spells that tree.
 pub fn files_that_are_read_are_in_grammar()
@@ -17,8 +17,8 @@ pub fn files_have_one_tree()
 {}
 
 /// A file in the grammar of files whose tree has the first kinds alone is read as such a tree.
-pub fn files_of_first_kinds_are_read_so()
-    ensures { FilesOfFirstKindsAreReadSo }
+pub fn files_without_lazy_kinds_are_read_so()
+    ensures { FilesWithoutLazyKindsAreReadSo }
 {}
 
 /// A file is read as one tree, over one layout.

@@ -2,11 +2,14 @@
 #![tactic(auto)]
 
 mod command;
+#[cfg(test)]
+mod file_cases;
 mod files;
-mod first_kinds;
 mod gate;
 mod in_memory;
+mod judging;
 mod laws;
+mod lazy_kinds;
 mod lines;
 mod outcome;
 mod output;
@@ -23,6 +26,7 @@ pub use gate::{Gate, Idle};
 pub use in_memory::run_in_memory;
 pub use laws::{
     files_are_read_as_one_tree, files_have_one_tree, files_in_grammar_have_no_fault,
-    files_of_first_kinds_are_read_so, files_that_are_read_are_in_grammar, inputs_have_one_answer,
+    files_that_are_read_are_in_grammar, files_without_lazy_kinds_are_read_so,
+    inputs_have_one_answer,
 };
 pub use program::run;

@@ -42,12 +42,24 @@ pub(crate) fn violation_line(
     ensures { IfOk result (λ text. string_bytes text ≡ of_source (violation_text strings.now violation)) }
 {
     let mut text = String::from_str(alloc, "source: ")?;
-    text.push_str(name_of_rule(violation.rule))?;
-    text.push_str(" at node ")?;
-    put_number(violation.node, &mut text)?;
-    put_name(alloc, violation.name, strings, &mut text)?;
+    put_violation(alloc, violation, strings, &mut text)?;
     text.push('\n')?;
     Ok(text)
+}
+
+// Adds a rule that does not hold, its node, and its name at the end.
+pub(crate) fn put_violation(
+    alloc: Global,
+    violation: Violation,
+    strings: &StringTable,
+    into: &mut String,
+) -> Result<(), Memory>
+    ensures { OnOk result (string_bytes into.new ≡ string_bytes into.old ++ violation_text strings.now violation) }
+{
+    into.push_str(name_of_rule(violation.rule))?;
+    into.push_str(" at node ")?;
+    put_number(violation.node, into)?;
+    put_name(alloc, violation.name, strings, into)
 }
 
 fn put_fault(fault: SourceFault, into: &mut String) -> Result<(), Memory>

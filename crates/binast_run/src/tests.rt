@@ -1,5 +1,5 @@
 use super::*;
-use crate::source_cases;
+use crate::{file_cases, source_cases};
 use bast_base::{Chars, MemSink, MemSource, Steps, SureSink, SureSource};
 use std::alloc::{AllocError, Global};
 use std::test::Fail;
@@ -94,10 +94,7 @@ fn encode_with_room(
 }
 
 // The first source that has another line than is told.
-fn first_other<'a>(
-    alloc: Global,
-    cases: &[(&'a str, &str)],
-) -> Result<Option<&'a str>, AllocError> {
+fn first_lazy<'a>(alloc: Global, cases: &[(&'a str, &str)]) -> Result<Option<&'a str>, AllocError> {
     for (source, line) in cases {
         if line_of_source(alloc, source.as_bytes())?.as_slice() != line.as_bytes() {
             return Ok(Some(*source));
@@ -108,13 +105,13 @@ fn first_other<'a>(
 
 #[test]
 fn refuses_what_has_no_tree(rt: HostRuntime) -> Result<(), Fail> {
-    assert_eq!(rt; first_other(rt.alloc(), source_cases::REFUSED)?, None);
+    assert_eq!(rt; first_lazy(rt.alloc(), source_cases::REFUSED)?, None);
     Ok(())
 }
 
 #[test]
 fn refuses_early_errors_and_nothing_beside_them(rt: HostRuntime) -> Result<(), Fail> {
-    assert_eq!(rt; first_other(rt.alloc(), source_cases::EARLY)?, None);
+    assert_eq!(rt; first_lazy(rt.alloc(), source_cases::EARLY)?, None);
     Ok(())
 }
 
@@ -482,13 +479,31 @@ fn refuses_each_front_of_a_file(rt: HostRuntime) -> Result<(), Fail> {
     Ok(())
 }
 
+// Whether a command answers a file with this output, or refuses it with this line.
+fn answers(
+    alloc: Global,
+    words: &str,
+    file: &[u8],
+    line: &str,
+    output: &[u8],
+) -> Result<bool, AllocError> {
+    let (status, sink, notes) = run_large(alloc, words, file.to_vec(alloc)?, 2_000)?;
+    Ok(
+        status == u8::from(!line.is_empty())
+            && sink.written() == output
+            && notes.written() == line.as_bytes(),
+    )
+}
+
 #[test]
-fn refuses_files_of_other_kinds_yet(rt: HostRuntime) -> Result<(), Fail> {
+fn judges_what_files_say_of_scopes(rt: HostRuntime) -> Result<(), Fail> {
     let alloc = rt.alloc();
-    let file =
-        b"BINJS\x02[GRAMMAR]identity;\x62\x06\x0CScript\x32AssertedScriptGlobalScope\x1CEmptyStatement[STRINGS]identity;\x02\x00[TREE]identity;\x0E\x00\x00\x02\x00\x00\x02\x04";
-    assert!(rt; refuses(alloc, "check", file, "file: NotYet at node 2\n")?);
-    assert!(rt; refuses(alloc, "decode", file, "file: NotYet at node 2\n")?);
+    for (file, line, listing) in file_cases::FILES {
+        assert!(rt; answers(alloc, "decode", file, line, listing.as_bytes())?);
+        if !line.is_empty() {
+            assert!(rt; answers(alloc, "check", file, line, b"")?);
+        }
+    }
     Ok(())
 }
 

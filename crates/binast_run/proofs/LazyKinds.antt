@@ -6,7 +6,7 @@ use Rattle.bast_schema.specs.declared.node.Value.{Value}
 use Rattle.bast_schema.specs.Tree.{Tree, branch, Datum, child, absent, listed, flag, index, whole, name, no_name, choice, window, Data, none, more, nodes, nodes_at, nodes_in}
 use Rattle.bast_schema.specs.View.{datum, data_of}
 use Rattle.bast_schema.proofs.Lists.{data_of_drop}
-use Rattle.binast_run.specs.FirstKinds.{is_first, kinds_of, kinds_at, kinds_in, walked}
+use Rattle.binast_run.specs.LazyKinds.{is_eager_kind, kinds_of, kinds_at, kinds_in, walked}
 
 -- as many kinds as nodes
 mutual
@@ -36,7 +36,7 @@ ended_before false n m ks ls is rest = cc
 
 pub walked_on : (n m : ℕ) (ks ls : List Kind) → walked n ks ≡ Ok m → walked n (ks ++ ls) ≡ walked m ls
 walked_on n m [] ls is = let same : n ≡ m = cc in ap (λ (x : ℕ). walked x ls) same
-walked_on n m (k ∷ ks) ls is = ended_before (is_first k) n m ks ls is (walked_on (n + 1) m ks ls)
+walked_on n m (k ∷ ks) ls is = ended_before (is_eager_kind k) n m ks ls is (walked_on (n + 1) m ks ls)
 
 stopped_before : (b : Bool) (n e : ℕ) (ks ls : List Kind) → (if b then walked (n + 1) ks else Err n) ≡ Err e → (walked (n + 1) ks ≡ Err e → walked (n + 1) (ks ++ ls) ≡ Err e) → (if b then walked (n + 1) (ks ++ ls) else Err n) ≡ Err e
 stopped_before true n e ks ls is rest = rest is
@@ -44,7 +44,7 @@ stopped_before false n e ks ls is rest = is
 
 pub walked_no_further : (n e : ℕ) (ks ls : List Kind) → walked n ks ≡ Err e → walked n (ks ++ ls) ≡ Err e
 walked_no_further n e [] ls is = cc
-walked_no_further n e (k ∷ ks) ls is = stopped_before (is_first k) n e ks ls is (walked_no_further (n + 1) e ks ls)
+walked_no_further n e (k ∷ ks) ls is = stopped_before (is_eager_kind k) n e ks ls is (walked_no_further (n + 1) e ks ls)
 
 -- a walk that ended has counted each node
 counted_before : (b : Bool) (n m : ℕ) (k : Kind) (ks : List Kind) → (if b then walked (n + 1) ks else Err n) ≡ Ok m → (walked (n + 1) ks ≡ Ok m → m ≡ n + 1 + length ks) → m ≡ n + length (k ∷ ks)
@@ -53,24 +53,24 @@ counted_before false n m k ks is rest = cc
 
 pub walked_count : (n m : ℕ) (ks : List Kind) → walked n ks ≡ Ok m → m ≡ n + length ks
 walked_count n m [] is = let same : n ≡ m = cc in omega arith
-walked_count n m (k ∷ ks) is = counted_before (is_first k) n m k ks is (walked_count (n + 1) m ks)
+walked_count n m (k ∷ ks) is = counted_before (is_eager_kind k) n m k ks is (walked_count (n + 1) m ks)
 
--- a walk that ended met no other kind, and one that stopped did so at the first of them
-none_before : (b : Bool) (n m : ℕ) (ks : List Kind) → (if b then walked (n + 1) ks else Err n) ≡ Ok m → (walked (n + 1) ks ≡ Ok m → position_from (λ k. not (is_first k)) (n + 1) ks ≡ None) → cond (not b) (Some n) (position_from (λ k. not (is_first k)) (n + 1) ks) ≡ None
+-- a walk that ended met no lazy kind, and one that stopped did so at the first of them
+none_before : (b : Bool) (n m : ℕ) (ks : List Kind) → (if b then walked (n + 1) ks else Err n) ≡ Ok m → (walked (n + 1) ks ≡ Ok m → position_from (λ k. not (is_eager_kind k)) (n + 1) ks ≡ None) → cond (not b) (Some n) (position_from (λ k. not (is_eager_kind k)) (n + 1) ks) ≡ None
 none_before true n m ks is rest = rest is
 none_before false n m ks is rest = cc
 
-pub walked_none : (n m : ℕ) (ks : List Kind) → walked n ks ≡ Ok m → position_from (λ k. not (is_first k)) n ks ≡ None
+pub walked_none : (n m : ℕ) (ks : List Kind) → walked n ks ≡ Ok m → position_from (λ k. not (is_eager_kind k)) n ks ≡ None
 walked_none n m [] is = refl
-walked_none n m (k ∷ ks) is = none_before (is_first k) n m ks is (walked_none (n + 1) m ks)
+walked_none n m (k ∷ ks) is = none_before (is_eager_kind k) n m ks is (walked_none (n + 1) m ks)
 
-some_before : (b : Bool) (n e : ℕ) (ks : List Kind) → (if b then walked (n + 1) ks else Err n) ≡ Err e → (walked (n + 1) ks ≡ Err e → position_from (λ k. not (is_first k)) (n + 1) ks ≡ Some e) → cond (not b) (Some n) (position_from (λ k. not (is_first k)) (n + 1) ks) ≡ Some e
+some_before : (b : Bool) (n e : ℕ) (ks : List Kind) → (if b then walked (n + 1) ks else Err n) ≡ Err e → (walked (n + 1) ks ≡ Err e → position_from (λ k. not (is_eager_kind k)) (n + 1) ks ≡ Some e) → cond (not b) (Some n) (position_from (λ k. not (is_eager_kind k)) (n + 1) ks) ≡ Some e
 some_before true n e ks is rest = rest is
 some_before false n e ks is rest = let same : n ≡ e = cc in ap Some same
 
-pub walked_some : (n e : ℕ) (ks : List Kind) → walked n ks ≡ Err e → position_from (λ k. not (is_first k)) n ks ≡ Some e
+pub walked_some : (n e : ℕ) (ks : List Kind) → walked n ks ≡ Err e → position_from (λ k. not (is_eager_kind k)) n ks ≡ Some e
 walked_some n e [] is = cc
-walked_some n e (k ∷ ks) is = some_before (is_first k) n e ks is (walked_some (n + 1) e ks)
+walked_some n e (k ∷ ks) is = some_before (is_eager_kind k) n e ks is (walked_some (n + 1) e ks)
 
 -- what is left of a walk over values, where one of them was walked
 pub values_on : (vs : List Value) (i : ℕ) (v : Value) (n m : ℕ) → v ≡ get_or vs i v → i < length vs → walked n (kinds_at (datum v)) ≡ Ok m → walked n (kinds_in (data_of (drop i vs))) ≡ walked m (kinds_in (data_of (drop (i + 1) vs)))

@@ -1,18 +1,13 @@
--- The kinds of which a file may have a tree yet: those of a script of whole numbers. And the first node of another kind.
+-- The kinds of lazy functions, of which no file may have a node yet, and the first node of one.
 use Rattle.std.specs.Prelude.{ℕ, Bool, true, false, not, List, [], ◌∷◌, ◌+◌, ◌++◌, Option, Result, Ok, Err, if◌then◌else◌}
 use Rattle.std.specs.List.{position_from}
 use Rattle.bast_schema.specs.declared.kind.Kind.{Kind}
-use Rattle.bast_schema.specs.declared.kind.Kind.TheVariants.{Null, Script, AssertedScriptGlobalScope, ExpressionStatement, LiteralNumericExpression}
+use Rattle.bast_schema.specs.Fields.{has_lazy}
 use Rattle.bast_schema.specs.Tree.{Tree, branch, Datum, child, listed, Data, none, more}
 
--- whether a kind is one of those
-abbrev pub is_first : Kind → Bool
-is_first Null = true
-is_first Script = true
-is_first AssertedScriptGlobalScope = true
-is_first ExpressionStatement = true
-is_first LiteralNumericExpression = true
-is_first _ = false
+-- whether a kind is none of those
+abbrev pub is_eager_kind : Kind → Bool
+is_eager_kind k = not (has_lazy k)
 
 -- the kinds of the nodes in preorder: what is absent and a window have none
 abbrev mutual
@@ -28,12 +23,12 @@ abbrev mutual
   kinds_in none = []
   kinds_in (more d ds) = kinds_at d ++ kinds_in ds
 
--- the number of the first node that is of another kind, counted from 0 in preorder
-abbrev pub first_other : Tree → Option ℕ
-first_other t = position_from (λ k. not (is_first k)) 0 (kinds_of t)
+-- the number of the first node of a lazy kind, counted from 0 in preorder
+abbrev pub first_lazy : Tree → Option ℕ
+first_lazy t = position_from (λ k. not (is_eager_kind k)) 0 (kinds_of t)
 
 -- What a walk over nodes of these kinds comes to, where the first of them has this number: the number of the node behind
--- them, or that of the first of another kind.
+-- them, or that of the first of a lazy kind.
 abbrev pub walked : ℕ → List Kind → Result ℕ ℕ
 walked n [] = Ok n
-walked n (k ∷ ks) = if is_first k then walked (n + 1) ks else Err n
+walked n (k ∷ ks) = if is_eager_kind k then walked (n + 1) ks else Err n
