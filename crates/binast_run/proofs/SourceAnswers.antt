@@ -54,7 +54,7 @@ fault_in (stopped stop) = Some (fault_of stop)
 fault_in (made texts (Ok t)) = None
 fault_in (made texts (Err faults.Memory)) = None
 fault_in (made texts (Err faults.TooDeep)) = Some source.DeepTree
-fault_in (made texts (Err faults.Broken)) = Some source.Broken
+fault_in (made texts (Err faults.Broken)) = None
 
 record Refusing (text : List ℕ) (fault : SourceFault) : Type 0 where
   answer : Answer
@@ -68,7 +68,6 @@ refusing text texts (source.Syntax at) no_memory refused = record { answer = sto
 refusing text texts (source.NotHere at what) no_memory refused = record { answer = stopped (NotHere at what); is = refused; fault_is = refl }
 refusing text texts (source.TooDeep at) no_memory refused = record { answer = stopped (TooDeep at); is = refused; fault_is = refl }
 refusing text texts source.DeepTree no_memory refused = record { answer = made texts (Err faults.TooDeep); is = refused; fault_is = refl }
-refusing text texts source.Broken no_memory refused = record { answer = made texts (Err faults.Broken); is = refused; fault_is = refl }
 
 same_some : (f g : SourceFault) → Some f ≡ Some g → f ≡ g
 same_some f g e = cc

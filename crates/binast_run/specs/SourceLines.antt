@@ -60,7 +60,6 @@ fault_text (source.Syntax at) = placed (codes "Syntax") at
 fault_text (source.NotHere at what) = placed (codes "NotHere " ++ left_text what) at
 fault_text (source.TooDeep at) = placed (codes "TooDeep") at
 fault_text source.DeepTree = codes "DeepTree"
-fault_text source.Broken = []
 
 abbrev pub rule_text : Rule → List ℕ
 rule_text rules.E1 = codes "E1"

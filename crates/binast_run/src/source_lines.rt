@@ -75,7 +75,6 @@ fn put_fault(fault: SourceFault, into: &mut String) -> Result<(), Memory>
         }
         SourceFault::TooDeep { at } => put_placed("TooDeep", at, into),
         SourceFault::DeepTree => put("DeepTree", into),
-        SourceFault::Broken => Ok(()),
     }
 }
 
