@@ -30,6 +30,11 @@ all_caught x fs = list_all (λ f. not (is_fact x f) || f.captured) fs
 abbrev pub entered : ℕ → List FactName → ℕ → Option Cover → Option Cover
 entered now fs x o = if has_fact x fs then Some (record { function = now; captured = all_caught x fs }) else o
 
+-- what the entries that aren't captured make of the cover of a name, one after the other
+abbrev pub marked : ℕ → List FactName → ℕ → Option Cover → Option Cover
+marked now [] x o = o
+marked now (f ∷ fs) x o = marked now fs x (if not f.captured && is_fact x f then Some (record { function = now; captured = false }) else o)
+
 -- the entries of a scope
 abbrev pub facts_named : Option ℕ → Data → List FactName
 facts_named None ds = []

@@ -3,6 +3,7 @@ use Rattle.std.specs.Prelude.{ℕ, Bool, true, ◌&&◌, ◌+◌, if◌then◌el
 use Rattle.bast_schema.specs.declared.kind.Kind.{Kind}
 use Rattle.bast_schema.specs.Tree.{Tree, branch, Datum, child, listed, Data, none, more, nodes_at}
 use Rattle.scope_facts.specs.declared.context.Rule.TheVariants.{A2}
+use Rattle.scope_facts.specs.declared.context.ScopeFacts.{ScopeFacts}
 use Rattle.scope_facts.specs.declared.context.Violation.{Violation}
 use Rattle.scope_facts.specs.declared.roles.Part.{Part}
 use Rattle.scope_facts.specs.declared.roles.Part.TheVariants.{Use}
@@ -60,3 +61,8 @@ abbrev mutual
 abbrev pub told_step : Option Violation → ℕ → Step
 told_step (Some v) n = Found v
 told_step None n = Next n
+
+-- the cover of a name inside the scopes of a context, outermost first, where it was this
+abbrev pub cover_start : List ScopeFacts → ℕ → Option Cover → Option Cover
+cover_start [] x o = o
+cover_start (s ∷ ss) x o = cover_start ss x (entered 0 s.names x o)
