@@ -1,5 +1,5 @@
 -- The first violation by one recursion over the tree, with the covers of the names in place of frames.
-use Rattle.std.specs.Prelude.{ℕ, Bool, true, ◌&&◌, ◌+◌, if◌then◌else◌, Option, None, Some, List}
+use Rattle.std.specs.Prelude.{ℕ, Bool, true, ◌&&◌, ◌+◌, if◌then◌else◌, Option, None, Some, List, [], ◌∷◌}
 use Rattle.bast_schema.specs.declared.kind.Kind.{Kind}
 use Rattle.bast_schema.specs.Tree.{Tree, branch, Datum, child, listed, Data, none, more, nodes_at}
 use Rattle.scope_facts.specs.declared.context.Rule.TheVariants.{A2}
