@@ -1,2 +1,3 @@
 pub mod Shadows
 pub mod Walks
+pub mod Meaning

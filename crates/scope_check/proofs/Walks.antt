@@ -1,5 +1,9 @@
 -- The walk finds the first violation.
-use Rattle.std.proofs.Common.{ℕ, List, [], ◌∷◌, ◌++◌, ◌+◌, ◌≡◌, ◌≤◌, refl, Bool, true, false, ◌&&◌, ◌||◌, not, nat_eq, nat_lt, if◌then◌else◌, Option, None, Some, ap, sym, ◌∙◌, arith}
+use Rattle.std.proofs.Common.{ℕ, List, [], ◌∷◌, ◌++◌, ◌+◌, ◌≡◌, ◌≤◌, refl, Bool, true, false, ◌&&◌, ◌||◌, not, nat_eq, nat_lt, if◌then◌else◌, Option, None, Some, ap, sym, ◌∙◌, arith, get_or, length, take, drop, ◌<◌, ◌-◌}
+use Rattle.std.proofs.lemmas.List.{take_all}
+use Rattle.bast_schema.proofs.Lists.{data_of_drop}
+use Rattle.bast_schema.specs.View.{datum, data_of}
+use Rattle.bast_schema.specs.declared.node.Value.{Value}
 use Rattle.bast_schema.specs.declared.kind.Kind.{Kind}
 use Rattle.bast_schema.specs.Counts.{size, size_at, size_in}
 use Rattle.bast_schema.specs.Tree.{Tree, branch, Datum, child, absent, listed, flag, index, whole, name, no_name, choice, window, Data, none, more, nodes, nodes_at, nodes_in, kind_of, values_of}
@@ -105,6 +109,14 @@ pub next_is : (o : Option Violation) (m n : ℕ) → Next m ≡ told_step o n �
 next_is (Some w) m n e = cc
 next_is None m n e = cc
 
+rest_short : (vs : List Value) → length (drop 1 vs) ≤ length vs - 1
+rest_short [] = omega arith
+rest_short (v ∷ vs) = omega arith
+
+-- the first of a list of values, and the rest
+pub fields_are : (vs : List Value) (v : Value) → v ≡ get_or vs 0 v → 0 < length vs → data_of vs ≡ more (datum v) (data_of (take (length vs - 1) (drop 1 vs)))
+fields_are vs v e h = data_of_drop vs 0 v e h ∙ ap (λ ws. more (datum v) (data_of ws)) (sym (take_all (length vs - 1) (drop 1 vs) (rest_short vs)))
+
 -- a node without a violation of its own, and one with one
 
 by_parts : (o rest : Option Violation) (m n : ℕ) → None ≡ o → m ≡ n → told_step rest m ≡ told_step (or_else o rest) n
@@ -141,12 +153,11 @@ field_found e c now told names n m d ds all v st is s at_is st_is =
     ∙ ap (λ o. told_step o m) (sym (in_field e c now told names n d ds s))
     ∙ ap (λ q. told_step (least_in e c now told names n q) m) (sym is)
 
-pub field_more : (e : Option ℕ) (b c : ℕ → Option Cover) (now : ℕ) (told : Bool) (names : List ℕ) (n m : ℕ) (d : Datum) (ds all : Data) (st out : Step) → all ≡ more d ds → is_scope d ≡ false
+pub field_more : (e : Option ℕ) (b c : ℕ → Option Cover) (now : ℕ) (told : Bool) (names : List ℕ) (n m : ℕ) (d : Datum) (ds all : Data) (st : Step) → all ≡ more d ds → is_scope d ≡ false
     → st ≡ told_step (least_at e c now told n d) (n + nodes_at d) → st ≡ Next m → ((x : ℕ) → b x ≡ c x)
-    → out ≡ told_step (least_in e b now told names m ds) (m + nodes_in ds) → out ≡ told_step (least_in e c now told names n all) (n + nodes_in all)
-field_more e b c now told names n m d ds all st out is s at_is st_is same out_is =
-    out_is
-    ∙ ap (λ o. told_step o (m + nodes_in ds)) (least_in_same e b c now told names m ds same)
+    → told_step (least_in e b now told names m ds) (m + nodes_in ds) ≡ told_step (least_in e c now told names n all) (n + nodes_in all)
+field_more e b c now told names n m d ds all st is s at_is st_is same =
+    ap (λ o. told_step o (m + nodes_in ds)) (least_in_same e b c now told names m ds same)
     ∙ ap (λ i. told_step (least_in e c now told names i ds) (i + nodes_in ds)) (next_is (least_at e c now told n d) m (n + nodes_at d) (sym st_is ∙ at_is))
     ∙ by_parts (least_at e c now told n d) (least_in e c now told names (n + nodes_at d) ds) (n + nodes_at d + nodes_in ds) (n + (nodes_at d + nodes_in ds)) (sym (next_none (least_at e c now told n d) m (n + nodes_at d) (sym st_is ∙ at_is))) (omega arith)
     ∙ ap (λ o. told_step o (n + nodes_in (more d ds))) (sym (in_field e c now told names n d ds s))
@@ -175,13 +186,11 @@ scope_more e b c now told inner names n m d ds st s nothing number inner_is same
     ∙ by_parts (first (untrue_scope n names d ds)) (least_in e (λ x. entered now (facts_of d) x (c x)) now (told && says_eval d) names (n + nodes_at d) ds) (n + nodes_at d + nodes_in ds) (n + nodes_at d + nodes_in ds) nothing refl
     ∙ ap (λ o. told_step o (n + nodes_at d + nodes_in ds)) (sym (in_scope e c now told names n d ds s))
 
-left_case : (h : Bool) (o p q r : Option Cover) (y : Option Cover) → p ≡ (if h then y else o) → q ≡ p → r ≡ (if h then o else q) → r ≡ o
-left_case true o p q r y e f g = g
-left_case false o p q r y e f g = g ∙ f ∙ e
-
--- behind a scope the covers are those before it
-pub scope_left : (now : ℕ) (d : Datum) (fs : List FactName) (x : ℕ) (o p q r : Option Cover) → p ≡ entered now fs x o → q ≡ p → r ≡ (if has_fact x fs then o else q) → r ≡ o
-scope_left now d fs x o p q r e f g = left_case (has_fact x fs) o p q r (Some (record { function = now; captured = all_caught x fs })) e f g
+pub scope_whole : (e : Option ℕ) (c : ℕ → Option Cover) (now : ℕ) (told : Bool) (names : List ℕ) (n : ℕ) (d : Datum) (ds all : Data) → all ≡ more d ds
+    → told_step (least_in e c now told names n (more d ds)) (n + nodes_at d + nodes_in ds) ≡ told_step (least_in e c now told names n all) (n + nodes_in all)
+scope_whole e c now told names n d ds all is =
+    ap (told_step (least_in e c now told names n (more d ds))) (let i : n + nodes_at d + nodes_in ds ≡ n + (nodes_at d + nodes_in ds) = omega arith in i)
+    ∙ ap (λ q. told_step (least_in e c now told names n q) (n + nodes_in q)) (sym is)
 
 -- the items of a list
 

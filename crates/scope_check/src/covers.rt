@@ -165,7 +165,7 @@ fn facts_of_entries(alloc: Global, entries: &[Value]) -> Result<Vec<FactName>, M
 }
 
 /// What the entries of a scope say, which has these fields.
-pub(crate) fn facts_of_scope(alloc: Global, fields: &[Value]) -> Result<Vec<FactName>, Memory>
+fn facts_of_fields(alloc: Global, fields: &[Value]) -> Result<Vec<FactName>, Memory>
     ensures { IfOk result (λ r. r.items ≡ facts_in (data_of fields.now)) }
 {
     match fields {
@@ -175,4 +175,11 @@ pub(crate) fn facts_of_scope(alloc: Global, fields: &[Value]) -> Result<Vec<Fact
             _ => Ok(Vec::new(alloc)),
         },
     }
+}
+
+/// What the entries of a scope say.
+pub(crate) fn facts_of_scope(alloc: Global, scope: &Node) -> Result<Vec<FactName>, Memory>
+    ensures { IfOk result (λ r. r.items ≡ facts_of (child scope.now)) }
+{
+    facts_of_fields(alloc, scope.fields())
 }

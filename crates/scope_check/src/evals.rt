@@ -1,11 +1,12 @@
-ghost use Rattle.std.specs.Prelude.{◌≡◌};
+ghost use Rattle.std.specs.Prelude.{◌≡◌, ◌&&◌};
+ghost use Rattle.bast_schema.specs.Tree.{child};
 ghost use Rattle.bast_schema.specs.View.{data_of};
 ghost use Rattle.scope_facts.specs.Exact.{eval_name};
-ghost use Rattle.scope_facts.specs.Reading.{says_eval_in};
+ghost use Rattle.scope_facts.specs.Reading.{says_eval, says_eval_in};
 ghost use Rattle.scope_facts.specs.Uses.{is_eval, is_use_of, is_use_of_text};
 
 use crate::covers::first_flag;
-use bast_schema::Value;
+use bast_schema::{Node, Value};
 use scope_facts::{Part, first_name_of, part_of};
 use string_table::StringTable;
 
@@ -60,11 +61,18 @@ pub(crate) fn is_eval_call(eval: Option<u32>, part: Part, fields: &[Value]) -> b
 }
 
 /// Whether a scope with these fields tells a direct eval in what it covers.
-pub(crate) fn tells_eval(fields: &[Value]) -> bool
+fn tells_eval(fields: &[Value]) -> bool
     ensures { result ≡ says_eval_in (data_of fields.now) }
 {
     match fields {
         [Value::List(_), rest @ ..] => first_flag(rest),
         _ => true,
     }
+}
+
+/// Whether a scope tells a direct eval, where the scopes around it do.
+pub(crate) fn tells_eval_too(told: bool, scope: &Node) -> bool
+    ensures { result ≡ (told && says_eval (child scope.now)) }
+{
+    told && tells_eval(scope.fields())
 }

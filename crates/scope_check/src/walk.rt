@@ -11,7 +11,7 @@ ghost use Rattle.scope_check.specs.Untrue.{violation, entries_rule, untrue_scope
 
 use crate::covers::{Cover, enter, facts_of_scope, find_cover, leave};
 use crate::entries::judge_scope;
-use crate::evals::{is_eval_call, name_of_eval, tells_eval};
+use crate::evals::{is_eval_call, name_of_eval, tells_eval_too};
 use crate::finding::Finding;
 use crate::numbers::number_behind;
 use bast_base::{Memory, NameId};
@@ -226,8 +226,8 @@ fn walk_scope(
         return Ok(Step::Found(violation));
     }
     let next = number_behind(number, node);
-    let told = told && tells_eval(node.fields());
-    let facts = facts_of_scope(alloc, node.fields())?;
+    let told = tells_eval_too(told, node);
+    let facts = facts_of_scope(alloc, node)?;
     let shadows = enter(alloc, covers, now, &facts)?;
     let step = walk_fields(alloc, eval, covers, now, told, names, next, after)?;
     leave(covers, shadows)?;
