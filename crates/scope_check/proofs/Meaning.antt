@@ -26,12 +26,12 @@ use Rattle.scope_check.specs.Untrue.{first, violation, untrue_use, untrue_eval, 
 use Rattle.scope_check.proofs.Walks.{least_same, least_in_same, found_is, next_none}
 
 -- how many functions frames are inside of
-pub functions : List Frame → ℕ
+abbrev pub functions : List Frame → ℕ
 functions [] = 0
 functions (begins ∷ fs) = functions fs + 1
 functions (scope es ∷ fs) = functions fs
 
-pub cover_in : List Frame → ℕ → Option Cover
+abbrev pub cover_in : List Frame → ℕ → Option Cover
 cover_in [] x = None
 cover_in (begins ∷ fs) x = cover_in fs x
 cover_in (scope es ∷ fs) x = if has_entry x es then Some (record { function = functions fs; captured = all_captured x es }) else cover_in fs x
@@ -142,10 +142,6 @@ first_append : {A : Type 0} (xs ys : List A) → or_else (first xs) (first ys) �
 first_append [] ys = refl
 first_append (x ∷ xs) ys = refl
 
-else_assoc : (o p q : Option Violation) → or_else (or_else o p) q ≡ or_else o (or_else p q)
-else_assoc (Some v) p q = refl
-else_assoc None p q = refl
-
 use_first : (b : Bool) (v : Violation) → (if b then None else Some v) ≡ first (if b then [] else v ∷ [])
 use_first true v = refl
 use_first false v = refl
@@ -154,7 +150,7 @@ use_is : (fs : List Frame) (n : ℕ) (k : Kind) (ds : Data) → least_use (cover
 use_is fs n k ds = ap (λ b. if b then None else Some (violation n A2 (first_name ds))) (fine_use_is fs (part k) ds) ∙ use_first (fine_use fs (part k) ds) (violation n A2 (first_name ds))
 
 node_is : (us es xs : List Violation) (o p q : Option Violation) → o ≡ first us → p ≡ first es → q ≡ first xs → or_else (or_else o p) q ≡ first (us ++ es ++ xs)
-node_is us es xs o p q e f g = rw (e, f, g) (else_assoc (first us) (first es) (first xs) ∙ ap (or_else (first us)) (first_append es xs) ∙ first_append us (es ++ xs))
+node_is us es xs o p q e f g = rw (e, f, g) (ap (λ r. or_else r (first xs)) (first_append us es) ∙ first_append (us ++ es) xs)
 
 in_part : (e : Option ℕ) (fs : List Frame) (p : Part) (told : Bool) (names : List ℕ) (n : ℕ) (ds : Data)
     → ((gs : List Frame) → least_in e (cover_in gs) (functions gs) told names n ds ≡ first (untrue_in e gs told names n ds))
