@@ -1,8 +1,8 @@
-/// What the entries of a scope are found to be.
-#[derive(Clone, Copy, Debug, PartialEq, Eq)]
+/// What a rule finds at a node.
+#[derive(Clone, Copy)]
 pub enum Finding {
-    /// They are those that the scope has to have.
+    /// The rule holds.
     Fine,
-    /// They aren't, and this is the name that shows it, where it is one name.
+    /// It does not, by this name where it is one name.
     Wrong(Option<u32>),
 }

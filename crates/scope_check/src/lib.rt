@@ -1,4 +1,4 @@
-//! The rules on what the scopes of a tree say: whether they are true of the tree.
+//! The rules on what the scopes of a tree say: whether it is true of the tree.
 #![tactic(auto)]
 
 mod covers;
@@ -10,3 +10,6 @@ mod walk;
 
 pub use finding::Finding;
 pub use walk::{Step, first_untrue};
+
+#[cfg(test)]
+mod tests;

@@ -242,7 +242,7 @@ pub fn are_simple(after: &[Value]) -> bool
 }
 
 /// The entries of a scope, from the names that the values of its node bind and from what stands after it.
-pub(crate) fn make_entries(
+pub fn make_entries(
     alloc: Global,
     shape: Shape,
     names: &[u32],
