@@ -203,7 +203,7 @@ fn judge_fields(
     fields: &[Value],
     after: &[Value],
 ) -> Result<Finding, Memory>
-    requires { size_in (data_of after.now) ≤ 2 ^ 28 }
+    requires { size_in (data_of after.now) ≤ 2 ^ 30 }
     ensures { IfOk result (λ f. f ≡ says_by shape names.now (data_of fields.now) (data_of after.now)) }
 {
     if matches!(shape, Shape::Nothing) {
@@ -225,7 +225,7 @@ pub(crate) fn judge_scope(
     names: &[u32],
     after: &[Value],
 ) -> Result<Finding, Memory>
-    requires { size_in (data_of after.now) ≤ 2 ^ 28 }
+    requires { size_in (data_of after.now) ≤ 2 ^ 30 }
     ensures { IfOk result (λ f. f ≡ scope_says names.now scope.now (data_of after.now)) }
 {
     judge_fields(alloc, scope_shape(scope.kind()), names, scope.fields(), after)

@@ -1,5 +1,5 @@
 ghost use Rattle.std.specs.Prelude.{◌≡◌, ◌<◌, ◌≤◌, ◌+◌, ◌^◌, ◌&&◌, not, ℕ, IfOk, OnOk, true, if◌then◌else◌, Some, None};
-ghost use Rattle.bast_schema.specs.Counts.{size};
+ghost use Rattle.bast_schema.specs.Counts.{size, size_at, size_in};
 ghost use Rattle.bast_schema.specs.Tree.{child, more, nodes, nodes_in, nodes_at, kind_of, values_of};
 ghost use Rattle.bast_schema.specs.View.{datum, data_of};
 ghost use Rattle.scope_facts.specs.Roles.{part};
@@ -108,6 +108,7 @@ fn scope_violation(
     scope: &Node,
     after: &[Value],
 ) -> Result<Option<Violation>, Memory>
+    requires { size_in (data_of after.now) ≤ 2 ^ 30 }
     ensures { IfOk result (λ r. r ≡ first (untrue_scope number names.now (child scope.now) (data_of after.now))) }
 {
     match judge_scope(alloc, scope, names, after)? {
@@ -153,6 +154,7 @@ fn walk_node(
 ) -> Result<Step, Memory>
     requires functions { now ≤ number }
     requires numbers { number + nodes node.now < 2 ^ 32 }
+    requires size { size node.now ≤ 2 ^ 30 }
     ensures step { IfOk result (λ r. r ≡ told_step (least eval (cover_of covers.old.items) now told number node.now) (number + nodes node.now)) }
     ensures covers { OnOk result ((x : ℕ) → cover_of covers.new.items x ≡ cover_of covers.old.items x) }
 {
@@ -180,6 +182,7 @@ fn walk_fields(
 ) -> Result<Step, Memory>
     requires functions { now ≤ number }
     requires numbers { number + nodes_in (data_of fields.now) < 2 ^ 32 }
+    requires size { size_in (data_of fields.now) ≤ 2 ^ 30 }
     ensures step { IfOk result (λ r. r ≡ told_step (least_in eval (cover_of covers.old.items) now told names.now number (data_of fields.now)) (number + nodes_in (data_of fields.now))) }
     ensures covers { OnOk result ((x : ℕ) → cover_of covers.new.items x ≡ cover_of covers.old.items x) }
 {
@@ -216,6 +219,7 @@ fn walk_scope(
     requires scope { is_scope (datum scope.now) ≡ true }
     requires functions { now ≤ number }
     requires numbers { number + nodes_at (datum scope.now) + nodes_in (data_of after.now) < 2 ^ 32 }
+    requires size { size_in (data_of after.now) ≤ 2 ^ 30 }
     ensures step { IfOk result (λ r. r ≡ told_step (least_in eval (cover_of covers.old.items) now told names.now number (more (datum scope.now) (data_of after.now))) (number + nodes_at (datum scope.now) + nodes_in (data_of after.now))) }
     ensures covers { OnOk result ((x : ℕ) → cover_of covers.new.items x ≡ cover_of covers.old.items x) }
 {
@@ -247,6 +251,7 @@ fn walk_value(
 ) -> Result<Step, Memory>
     requires functions { now ≤ number }
     requires numbers { number + nodes_at (datum value.now) < 2 ^ 32 }
+    requires size { size_at (datum value.now) ≤ 2 ^ 30 }
     ensures step { IfOk result (λ r. r ≡ told_step (least_at eval (cover_of covers.old.items) now told number (datum value.now)) (number + nodes_at (datum value.now))) }
     ensures covers { OnOk result ((x : ℕ) → cover_of covers.new.items x ≡ cover_of covers.old.items x) }
 {
@@ -272,6 +277,7 @@ fn walk_items(
 ) -> Result<Step, Memory>
     requires functions { now ≤ number }
     requires numbers { number + nodes_in (data_of values.now) < 2 ^ 32 }
+    requires size { size_in (data_of values.now) ≤ 2 ^ 30 }
     ensures step { IfOk result (λ r. r ≡ told_step (least_among eval (cover_of covers.old.items) now told number (data_of values.now)) (number + nodes_in (data_of values.now))) }
     ensures covers { OnOk result ((x : ℕ) → cover_of covers.new.items x ≡ cover_of covers.old.items x) }
 {

@@ -1,7 +1,8 @@
 use Rattle.std.proofs.Common.{◌≡◌, ap, sym, ◌∙◌, arith, subst, IfOk, ◌≤◌, ◌+◌, true}
-use Rattle.bast_schema.specs.Tree.{nodes_in, nodes_at, child, more}
+use Rattle.bast_schema.specs.Tree.{Data, nodes_in, nodes_at, child, more}
 use Rattle.bast_schema.specs.View.{datum, data_of}
 use Rattle.bast_schema.proofs.Lists.{weight_member, data_of_drop}
+use Rattle.bast_schema.proofs.Sums.{size_member}
 use Rattle.scope_facts.specs.Uses.{is_scope}
 use Rattle.scope_check.specs.Covers.{cover_of, entered}
 use Rattle.scope_check.specs.Least.{least_in, told_step}
@@ -24,7 +25,10 @@ walk_items-walk_value-requires t c = (
   omega (arith, weight_member _ _ _ c.value-item.is c.loop-value-test.true),
   (
     c.loop-value.invariant.now,
-    omega (arith, c.requires.numbers, c.loop-value.invariant.walked.number, ap nodes_in (data_of_drop _ _ _ c.value-item.is c.loop-value-test.true)),
+    (
+      omega (arith, c.requires.numbers, c.loop-value.invariant.walked.number, ap nodes_in (data_of_drop _ _ _ c.value-item.is c.loop-value-test.true)),
+      omega (arith, c.requires.size, size_member _ _ _ c.value-item.is c.loop-value-test.true),
+    ),
   ),
 )
 
@@ -44,7 +48,7 @@ walk_items-loop-value-preserved t c = record {
 pub walk_scope-returns-clause-step : goal.walk_scope-returns-clause-step
 walk_scope-returns-clause-step t c =
     let i : datum c.args.scope.now ≡ child c.in-Node.node = ap datum c.in-Node.is
-    in let ds = data_of c.args.after.now
+    in let ds : Data = data_of c.args.after.now
     in subst (λ d. c.in_ok-step.step ≡ told_step (least_in c.args.eval (cover_of c.args.covers.now.items) c.args.now c.args.told c.args.names.now c.args.number (more d ds)) (c.args.number + nodes_at d + nodes_in ds)) (sym i)
         (scope_more c.args.eval (cover_of c.enter.new.covers.items) (cover_of c.args.covers.now.items) c.args.now c.args.told c.tells_eval_too-told.result c.args.names.now c.args.number c.number_behind-next.result (child c.in-Node.node) ds c.in_ok-step.step
             (subst (λ d. is_scope d ≡ true) i c.requires.scope) (sym c.in_default-2.is ∙ c.in_ok-violation.ensures) c.number_behind-next.ensures c.tells_eval_too-told.ensures
