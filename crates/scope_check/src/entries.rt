@@ -106,11 +106,7 @@ fn set_of(alloc: Global, list: &[Key]) -> Result<HashSet<Key>, Memory>
 }
 
 /// The name of the first key that is not wanted or repeats an earlier one.
-fn name_of_extra(
-    alloc: Global,
-    found: &[Key],
-    wanted: &HashSet<Key>,
-) -> Result<Option<u32>, Memory>
+fn name_of_extra(alloc: Global, found: &[Key], wanted: &HashSet<Key>) -> Result<Option<u32>, Memory>
     ensures { IfOk result (λ r. r ≡ first_extra (is_among wanted.now.keys) (λ a. false) found.now) }
 {
     let mut seen: HashSet<Key> = HashSet::new(alloc);
@@ -135,11 +131,7 @@ fn name_of_missing(wanted: &[Key], there: &HashSet<Key>) -> Option<u32>
 }
 
 /// The name in which keys differ from those that are wanted, in time linear in the number of both.
-fn name_of_difference(
-    alloc: Global,
-    found: &[Key],
-    wanted: &[Key],
-) -> Result<Option<u32>, Memory>
+fn name_of_difference(alloc: Global, found: &[Key], wanted: &[Key]) -> Result<Option<u32>, Memory>
     ensures { IfOk result (λ r. r ≡ differing found.now wanted.now) }
 {
     if let Some(name) = name_of_extra(alloc, found, &set_of(alloc, wanted)?)? {
@@ -228,5 +220,11 @@ pub(crate) fn judge_scope(
     requires { size_in (data_of after.now) ≤ 2 ^ 30 }
     ensures { IfOk result (λ f. f ≡ scope_says names.now scope.now (data_of after.now)) }
 {
-    judge_fields(alloc, scope_shape(scope.kind()), names, scope.fields(), after)
+    judge_fields(
+        alloc,
+        scope_shape(scope.kind()),
+        names,
+        scope.fields(),
+        after,
+    )
 }

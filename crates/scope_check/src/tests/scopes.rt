@@ -7,7 +7,9 @@ use std::alloc::Global;
 use std::test::Fail;
 
 const VAR: u8 = 0;
+
 const LET: u8 = 1;
+
 const CONST: u8 = 2;
 
 fn node(kind: Kind, fields: Vec<Value>) -> Result<Value, Fail> {
@@ -29,23 +31,24 @@ fn binding(alloc: Global, number: u32) -> Result<Value, Fail> {
 /// One declarator, without initializer.
 fn declarators(alloc: Global, number: u32) -> Result<Value, Fail> {
     let fields = vec![in alloc; binding(alloc, number)?, Value::Absent]?;
-    Ok(list(
-        vec![in alloc; node(Kind::VariableDeclarator, fields)?]?,
-    ))
+    Ok(list(vec![in alloc; node(Kind::VariableDeclarator, fields)?]?))
 }
 
 /// The contents of a getter, `var 7; let 8; var 7;`, whose scope has these entries.
 fn getter(alloc: Global, entries: Vec<Value>) -> Result<Node, Fail> {
-    let first = node(Kind::VarDeclaration, vec![in alloc; declarators(alloc, 7)?]?)?;
+    let first = node(
+        Kind::VarDeclaration,
+        vec![in alloc; declarators(alloc, 7)?]?,
+    )?;
     let second = vec![in alloc; Value::Choice(0), declarators(alloc, 8)?]?;
-    let third = node(Kind::VarDeclaration, vec![in alloc; declarators(alloc, 7)?]?)?;
+    let third = node(
+        Kind::VarDeclaration,
+        vec![in alloc; declarators(alloc, 7)?]?,
+    )?;
     let body = vec![in alloc; first, node(Kind::LexicalDeclaration, second)?, third]?;
     let scope = vec![in alloc; list(entries), Value::Bool(false)]?;
     let scope = node(Kind::AssertedVarScope, scope)?;
-    Ok(Node::new(
-        Kind::GetterContents,
-        vec![in alloc; scope, list(body)]?,
-    )?)
+    Ok(Node::new(Kind::GetterContents, vec![in alloc; scope, list(body)]?)?)
 }
 
 /// The clause `catch (7) {}`, whose scope has these entries.
@@ -69,18 +72,12 @@ fn arrow(alloc: Global, rest: bool, entries: Vec<Value>, simple: bool) -> Result
         Value::Absent
     };
     let items = vec![in alloc; binding(alloc, 7)?, binding(alloc, 8)?]?;
-    let items = node(
-        Kind::FormalParameters,
-        vec![in alloc; list(items), rest]?,
-    )?;
+    let items = node(Kind::FormalParameters, vec![in alloc; list(items), rest]?)?;
     let scope = vec![in alloc; list(entries), Value::Bool(false), Value::Bool(simple)]?;
     let scope = node(Kind::AssertedParameterScope, scope)?;
     let this = node(Kind::ThisExpression, Vec::new(alloc))?;
     let fields = vec![in alloc; scope, items, this]?;
-    Ok(Node::new(
-        Kind::EagerArrowExpressionWithExpression,
-        fields,
-    )?)
+    Ok(Node::new(Kind::EagerArrowExpressionWithExpression, fields)?)
 }
 
 fn declared(alloc: Global, number: u32, kind: u8, captured: bool) -> Result<Value, Fail> {
