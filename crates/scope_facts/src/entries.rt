@@ -128,7 +128,7 @@ fn make_first_entry(alloc: Global, parameter: &Value) -> Result<Vec<Value>, Memo
 
 /// Adds the entries of parameters, with their places.
 fn put_item_entries(alloc: Global, out: &mut Vec<Value>, items: &[Value]) -> Result<(), Memory>
-    requires { count (data_of items.now) ≤ 2 ^ 28 }
+    requires { count (data_of items.now) ≤ 2 ^ 30 }
     ensures { OnOk result ((others : Data) → join (data_of out.new.items) others ≡ join (data_of out.old.items) (item_entries 0 (data_of items.now) others)) }
 {
     let mut place = 0;
@@ -141,7 +141,7 @@ fn put_item_entries(alloc: Global, out: &mut Vec<Value>, items: &[Value]) -> Res
 
 /// The entries of a list of parameters with its rest.
 fn make_list_entries(alloc: Global, fields: &[Value]) -> Result<Vec<Value>, Memory>
-    requires { size_in (data_of fields.now) ≤ 2 ^ 28 }
+    requires { size_in (data_of fields.now) ≤ 2 ^ 30 }
     ensures { IfOk result (λ vs. data_of vs.items ≡ list_entries (data_of fields.now)) }
 {
     let mut out = Vec::new(alloc);
@@ -162,7 +162,7 @@ fn make_list_entries(alloc: Global, fields: &[Value]) -> Result<Vec<Value>, Memo
 
 /// The entries of parameters, from what stands after their scope.
 fn make_parameter_entries(alloc: Global, after: &[Value]) -> Result<Vec<Value>, Memory>
-    requires { size_in (data_of after.now) ≤ 2 ^ 28 }
+    requires { size_in (data_of after.now) ≤ 2 ^ 30 }
     ensures { IfOk result (λ vs. data_of vs.items ≡ parameter_entries (data_of after.now)) }
 {
     match after {
@@ -242,13 +242,13 @@ pub fn are_simple(after: &[Value]) -> bool
 }
 
 /// The entries of a scope, from the names that the values of its node bind and from what stands after it.
-pub(crate) fn make_entries(
+pub fn make_entries(
     alloc: Global,
     shape: Shape,
     names: &[u32],
     after: &[Value],
 ) -> Result<Vec<Value>, Memory>
-    requires { size_in (data_of after.now) ≤ 2 ^ 28 }
+    requires { size_in (data_of after.now) ≤ 2 ^ 30 }
     ensures { IfOk result (λ vs. data_of vs.items ≡ entries shape names.now (data_of after.now)) }
 {
     match shape {

@@ -17,7 +17,7 @@ mod roles;
 
 pub use bare::plain;
 pub use context::{Ctx, FactName, Rule, ScopeFacts, Violation};
-pub use entries::are_simple;
+pub use entries::{are_simple, make_entries};
 pub use exact_scopes::annotate;
 pub use laws::{
     entries_are_captured_exactly, evals_are_told_by_all_scopes, exact_scopes_change_scopes_alone,

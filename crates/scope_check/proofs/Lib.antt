@@ -1,0 +1,5 @@
+pub mod Examples
+pub mod Keys
+pub mod Shadows
+pub mod Walks
+pub mod Meaning

@@ -1,0 +1,4 @@
+pub mod Covers
+pub mod Entries
+pub mod Least
+pub mod Untrue

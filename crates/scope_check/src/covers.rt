@@ -1,0 +1,185 @@
+ghost use Rattle.std.specs.Prelude.{◌≡◌, ◌++◌, ◌<◌, ◌≤◌, ◌||◌, ◌&&◌, not, IfOk, OnOk, ℕ, Some, None, true, nat_eq, length, Option, if◌then◌else◌};
+ghost use Rattle.bast_schema.specs.Tree.{child};
+ghost use Rattle.bast_schema.specs.View.{datum, data_of};
+ghost use Rattle.scope_facts.specs.Frames.{is_captured};
+ghost use Rattle.scope_check.specs.Covers.{cover_of, entered, has_fact, marked, restored, facts_at, facts_among, facts_in, facts_of};
+
+use bast_base::{Memory, NameId};
+use bast_schema::{Node, Value};
+use scope_facts::{FactName, first_name_of};
+use std::alloc::Global;
+
+/// The innermost scope with an entry of a name that covers a place.
+#[derive(Clone, Copy, Debug)]
+pub(crate) struct Cover {
+    /// How many functions are around the scope.
+    pub(crate) function: u32,
+    /// Whether all its entries of the name are captured.
+    pub(crate) captured: bool,
+}
+
+/// What covered a name before a scope had an entry of it.
+#[derive(Clone, Copy, Debug)]
+pub(crate) struct Shadow {
+    name: u32,
+    cover: Option<Cover>,
+}
+
+/// The cover of a name.
+pub(crate) fn find_cover(covers: &[Option<Cover>], name: u32) -> Option<Cover>
+    ensures { result ≡ cover_of covers.now name }
+{
+    match covers.get(name as usize) {
+        Some(cover) => *cover,
+        None => None,
+    }
+}
+
+/// Makes room for the cover of a name.
+fn make_room(covers: &mut Vec<Option<Cover>>, name: u32) -> Result<(), Memory>
+    ensures room { OnOk result (name < length covers.new.items) }
+    ensures covers { OnOk result ((x : ℕ) → cover_of covers.new.items x ≡ cover_of covers.old.items x) }
+{
+    for _ in covers.len()..name as usize + 1 {
+        covers.push(None)?;
+    }
+    Ok(())
+}
+
+/// Changes the cover of a name.
+fn put_cover(covers: &mut Vec<Option<Cover>>, name: u32, cover: Option<Cover>) -> Result<(), Memory>
+    ensures { OnOk result ((x : ℕ) → cover_of covers.new.items x ≡ (if nat_eq name x then cover else cover_of covers.old.items x)) }
+{
+    make_room(covers, name)?;
+    covers[name as usize] = cover;
+    Ok(())
+}
+
+/// Covers the names of entries as if all were captured, and keeps what covered them before.
+fn put_facts(
+    alloc: Global,
+    covers: &mut Vec<Option<Cover>>,
+    now: u32,
+    facts: &[FactName],
+) -> Result<Vec<Shadow>, Memory>
+    ensures covers { OnOk result ((x : ℕ) → cover_of covers.new.items x ≡ (if has_fact x facts.now then Some (record { function = now; captured = true }) else cover_of covers.old.items x)) }
+    ensures shadows { IfOk result (λ r. (x : ℕ) (o : Option Cover) → restored r.items x o ≡ (if has_fact x facts.now then cover_of covers.old.items x else o)) }
+{
+    let mut shadows = Vec::with_capacity(alloc, facts.len())?;
+    for fact in facts {
+        let name = fact.name.0;
+        let cover = find_cover(covers, name);
+        shadows.push(Shadow { name, cover })?;
+        let entry = Cover {
+            function: now,
+            captured: true,
+        };
+        put_cover(covers, name, Some(entry))?;
+    }
+    Ok(shadows)
+}
+
+/// Covers the names of the entries that aren't captured by such entries.
+fn mark_facts(
+    covers: &mut Vec<Option<Cover>>,
+    now: u32,
+    facts: &[FactName],
+) -> Result<(), Memory>
+    ensures { OnOk result ((x : ℕ) → cover_of covers.new.items x ≡ marked now facts.now x (cover_of covers.old.items x)) }
+{
+    for fact in facts {
+        if !fact.captured {
+            let entry = Cover {
+                function: now,
+                captured: false,
+            };
+            put_cover(covers, fact.name.0, Some(entry))?;
+        }
+    }
+    Ok(())
+}
+
+/// Covers names by the entries of a scope inside so many functions, and keeps what covered them before.
+pub(crate) fn enter(
+    alloc: Global,
+    covers: &mut Vec<Option<Cover>>,
+    now: u32,
+    facts: &[FactName],
+) -> Result<Vec<Shadow>, Memory>
+    ensures covers { OnOk result ((x : ℕ) → cover_of covers.new.items x ≡ entered now facts.now x (cover_of covers.old.items x)) }
+    ensures shadows { IfOk result (λ r. (x : ℕ) (o : Option Cover) → restored r.items x o ≡ (if has_fact x facts.now then cover_of covers.old.items x else o)) }
+{
+    let shadows = put_facts(alloc, covers, now, facts)?;
+    mark_facts(covers, now, facts)?;
+    Ok(shadows)
+}
+
+/// Puts back what covered the names before a scope.
+pub(crate) fn leave(covers: &mut Vec<Option<Cover>>, mut shadows: Vec<Shadow>) -> Result<(), Memory>
+    ensures { OnOk result ((x : ℕ) → cover_of covers.new.items x ≡ restored shadows.items x (cover_of covers.old.items x)) }
+{
+    while let Some(shadow) = shadows.pop() {
+        put_cover(covers, shadow.name, shadow.cover)?;
+    }
+    Ok(())
+}
+
+/// The first flag among the values of an entry or behind the entries of a scope, or true.
+pub(crate) fn first_flag(values: &[Value]) -> bool
+    ensures { result ≡ is_captured (data_of values.now) }
+{
+    match values {
+        [] => true,
+        [first, rest @ ..] => match first {
+            Value::Bool(flag) => *flag,
+            _ => first_flag(rest),
+        },
+    }
+}
+
+/// Adds what an entry says.
+fn put_fact(facts: &mut Vec<FactName>, entry: &Value) -> Result<(), Memory>
+    ensures { OnOk result (facts.new.items ≡ facts.old.items ++ facts_at (datum entry.now)) }
+{
+    if let Value::Node(node) = entry {
+        let fields = node.fields();
+        if let Some(name) = first_name_of(fields) {
+            facts.push(FactName {
+                name: NameId(name),
+                captured: first_flag(fields),
+            })?;
+        }
+    }
+    Ok(())
+}
+
+/// What entries say.
+fn facts_of_entries(alloc: Global, entries: &[Value]) -> Result<Vec<FactName>, Memory>
+    ensures { IfOk result (λ r. r.items ≡ facts_among (data_of entries.now)) }
+{
+    let mut facts = Vec::with_capacity(alloc, entries.len())?;
+    for entry in entries {
+        put_fact(&mut facts, entry)?;
+    }
+    Ok(facts)
+}
+
+/// What the entries of a scope say, which has these fields.
+fn facts_of_fields(alloc: Global, fields: &[Value]) -> Result<Vec<FactName>, Memory>
+    ensures { IfOk result (λ r. r.items ≡ facts_in (data_of fields.now)) }
+{
+    match fields {
+        [] => Ok(Vec::new(alloc)),
+        [first, ..] => match first {
+            Value::List(entries) => facts_of_entries(alloc, entries.as_slice()),
+            _ => Ok(Vec::new(alloc)),
+        },
+    }
+}
+
+/// What the entries of a scope say.
+pub(crate) fn facts_of_scope(alloc: Global, scope: &Node) -> Result<Vec<FactName>, Memory>
+    ensures { IfOk result (λ r. r.items ≡ facts_of (child scope.now)) }
+{
+    facts_of_fields(alloc, scope.fields())
+}
