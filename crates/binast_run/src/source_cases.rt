@@ -34,285 +34,162 @@ pub static REFUSED: &[(&str, &str)] = &[
     ("let \u{2028} a, \u{2029} a", "source: E1 at node 0 \"a\"\n"),
 ];
 
-/// Sources beside each early error of ECMA-262: those that have none, and those that have it.
-pub static EARLY: &[(&str, &str)] = &[
-    ("let a; { let a; }", ""),
-    ("function f() {} function f() {}", ""),
-    ("for (let i, j;;) ;", ""),
-    ("switch (a) { case 1: let b; } let b;", ""),
-    ("var a, a;", ""),
-    ("let a, a;", "source: E1 at node 0 \"a\"\n"),
-    ("let a; const a = 1;", "source: E1 at node 0 \"a\"\n"),
-    ("{ function f() {} let f; }", "source: E1 at node 2 \"f\"\n"),
-    (
-        "switch (a) { case 1: let b; default: let b; }",
-        "source: E1 at node 2 \"b\"\n",
-    ),
-    ("for (let i, i;;) ;", "source: E1 at node 2 \"i\"\n"),
-    (
-        "function f() { let a; let a; }",
-        "source: E1 at node 4 \"a\"\n",
-    ),
-    ("({ get a() { let b, b } })", "source: E1 at node 6 \"b\"\n"),
-    ("let a; function f() { var a; }", ""),
-    ("var a; { let a; }", ""),
-    ("var a; var a; function a() {}", ""),
-    ("{ let a; (() => { var a; }); }", ""),
-    ("let x; var x;", "source: E2 at node 0 \"x\"\n"),
-    ("{ let a; { var a; } }", "source: E2 at node 2 \"a\"\n"),
-    ("let f; function f() {}", "source: E2 at node 0 \"f\"\n"),
-    (
-        "function f() { const a = 1; for (var a in b) ; }",
-        "source: E2 at node 4 \"a\"\n",
-    ),
-    ("{ function f() {} var f; }", "source: E2 at node 2 \"f\"\n"),
-    (
-        "switch (a) { default: let b; { var b } }",
-        "source: E2 at node 2 \"b\"\n",
-    ),
-    ("(function(a) { var a; })", ""),
-    ("(function(a) { { let a; } })", ""),
-    ("(a) => { var a }", ""),
-    ("({ set b(a) { { let a } } })", ""),
-    ("(function(a){ let a })", "source: E3 at node 5 \"a\"\n"),
-    ("(a) => { const a = 1 }", "source: E3 at node 4 \"a\"\n"),
-    ("({ set b(a) { let a } })", "source: E3 at node 6 \"a\"\n"),
-    (
-        "(function(b, ...a) { let c, a, b; })",
-        "source: E3 at node 5 \"a\"\n",
-    ),
-    ("({ m(a = 1) { let a } })", "source: E3 at node 6 \"a\"\n"),
-    ("(function(a, a) {})", ""),
-    ("function f(a, b, a) {}", ""),
-    ("(a, b) => 1", ""),
-    ("({ m(a, b) {} })", ""),
-    ("(a, a) => 1", "source: E4 at node 3 \"a\"\n"),
-    ("({ m(a, a) {} })", "source: E4 at node 6 \"a\"\n"),
-    (
-        "\"use strict\"; (function(a, a) {})",
-        "source: E4 at node 6 \"a\"\n",
-    ),
-    (
-        "(function(a, a) { \"use strict\" })",
-        "source: E4 at node 6 \"a\"\n",
-    ),
-    ("(function(a, a = 1) {})", "source: E4 at node 5 \"a\"\n"),
-    ("function f(a, ...a) {}", "source: E4 at node 4 \"a\"\n"),
-    ("(a, b, b, a) => { }", "source: E4 at node 4 \"b\"\n"),
-    ("(function(a) { \"use strict\" })", ""),
-    ("\"use strict\"; (function(a = 1) {})", ""),
-    ("(function(a = 1) { \"use\\x20strict\" })", ""),
-    ("(function(a = 1) { (\"use strict\") })", ""),
-    (
-        "(function(a = 1){ \"use strict\" })",
-        "source: E5 at node 6\n",
-    ),
-    (
-        "(...a) => { \"x\"; \"use strict\" }",
-        "source: E5 at node 6\n",
-    ),
-    (
-        "({ m(a, b = 2) { 'use strict' } })",
-        "source: E5 at node 7\n",
-    ),
-    (
-        "({ set m(a = 1) { \"use strict\" } })",
-        "source: E5 at node 7\n",
-    ),
-    ("eval = 1;", ""),
-    ("\"use strict\"; eval(1); arguments[0] = 1;", ""),
-    ("function f(eval) { arguments++ }", ""),
-    ("\"use strict\"; eval.a = 1;", ""),
-    (
-        "\"use strict\"; eval = 1;",
-        "source: E6 at node 5 \"eval\"\n",
-    ),
-    (
-        "\"use strict\"; arguments++;",
-        "source: E6 at node 5 \"arguments\"\n",
-    ),
-    (
-        "\"use strict\"; var eval;",
-        "source: E6 at node 5 \"eval\"\n",
-    ),
-    (
-        "\"use strict\"; for (arguments in b) ;",
-        "source: E6 at node 5 \"arguments\"\n",
-    ),
-    (
-        "function eval() { \"use strict\" }",
-        "source: E6 at node 3 \"eval\"\n",
-    ),
-    (
-        "\"use strict\"; (arguments) => 1",
-        "source: E6 at node 7 \"arguments\"\n",
-    ),
-    (
-        "\"use strict\"; try {} catch (eval) {}",
-        "source: E6 at node 8 \"eval\"\n",
-    ),
-    (
-        "function f() { \"use strict\"; (function() { --eval }) }",
-        "source: E6 at node 18 \"eval\"\n",
-    ),
-    ("delete x;", ""),
-    ("\"use strict\"; delete x.y;", ""),
-    ("\"use strict\"; delete x[y]; delete (x, y);", ""),
-    ("\"use strict\"; delete x;", "source: E7 at node 4 \"x\"\n"),
-    (
-        "\"use strict\"; delete (x);",
-        "source: E7 at node 4 \"x\"\n",
-    ),
-    (
-        "function f() { \"use strict\"; delete this, delete f }",
-        "source: E7 at node 13 \"f\"\n",
-    ),
-    (
-        "\"use strict\"; () => delete a",
-        "source: E7 at node 7 \"a\"\n",
-    ),
-    ("static = public;", ""),
-    ("var interface; package: ;", ""),
-    ("\"use strict\"; a.static; ({ public: 1 });", ""),
-    ("(function private(protected) {})", ""),
-    (
-        "\"use strict\"; static;",
-        "source: E8 at node 4 \"static\"\n",
-    ),
-    (
-        "\"use strict\"; var interface;",
-        "source: E8 at node 5 \"interface\"\n",
-    ),
-    (
-        "\"use strict\"; package: ;",
-        "source: E8 at node 3 \"package\"\n",
-    ),
-    (
-        "(function private() { \"use strict\" })",
-        "source: E8 at node 4 \"private\"\n",
-    ),
-    (
-        "\"use strict\"; for (;;) { break protected }",
-        "source: E8 at node 7 \"protected\"\n",
-    ),
-    (
-        "\"use strict\"; (implements) => 1",
-        "source: E8 at node 7 \"implements\"\n",
-    ),
-    (
-        "\"use strict\"; ({ public })",
-        "source: E8 at node 6 \"public\"\n",
-    ),
-    ("const c = 1;", ""),
-    ("for (const c of d) ;", ""),
-    ("for (const c in d) ;", ""),
-    ("let c; var d;", ""),
-    ("const c;", "source: E9 at node 3 \"c\"\n"),
-    ("for (const c;;) ;", "source: E9 at node 5 \"c\"\n"),
-    ("const a = 1, b;", "source: E9 at node 6 \"b\"\n"),
-    ("{ const c }", "source: E9 at node 5 \"c\"\n"),
-    ("function f() { return 1; }", ""),
-    ("(() => { return })", ""),
-    ("({ get a() { return } })", ""),
-    ("return 1;", "source: E10 at node 2\n"),
-    ("{ return }", "source: E10 at node 4\n"),
-    ("if (a) return;", "source: E10 at node 4\n"),
-    ("a: return", "source: E10 at node 3\n"),
-    ("(function() {}); return", "source: E10 at node 9\n"),
-    ("for (;;) break;", ""),
-    ("while (1) { if (a) continue; }", ""),
-    ("switch (a) { case 1: break }", ""),
-    ("do { switch (a) { default: continue } } while (0)", ""),
-    ("break;", "source: E11 at node 2\n"),
-    ("continue;", "source: E11 at node 2\n"),
-    ("switch (a) { case 1: continue }", "source: E11 at node 7\n"),
-    (
-        "for (;;) { (function() { break }) }",
-        "source: E11 at node 13\n",
-    ),
-    ("a: { break; }", "source: E11 at node 5\n"),
-    ("while (() => { continue }) ;", "source: E11 at node 8\n"),
-    ("a: { break a; }", ""),
-    ("a: b: while (1) continue a;", ""),
-    ("a: for (;;) { b: for (;;) { continue a } }", ""),
-    ("a: switch (b) { default: break a }", ""),
-    ("break a;", "source: E12 at node 2 \"a\"\n"),
-    (
-        "a: { (function() { break a }) }",
-        "source: E12 at node 12 \"a\"\n",
-    ),
-    (
-        "a: { while (1) continue a; }",
-        "source: E12 at node 7 \"a\"\n",
-    ),
-    ("a: ; while (1) break a;", "source: E12 at node 6 \"a\"\n"),
-    ("while (1) continue b;", "source: E12 at node 4 \"b\"\n"),
-    (
-        "a: for (;;) (() => { continue a })",
-        "source: E12 at node 11 \"a\"\n",
-    ),
-    ("a: ; a: ;", ""),
-    ("a: { b: ; } b: ;", ""),
-    ("a: (function() { a: ; });", ""),
-    ("a: a: ;", "source: E13 at node 3 \"a\"\n"),
-    ("a: { b: { a: ; } }", "source: E13 at node 8 \"a\"\n"),
-    (
-        "a: while (1) { if (b) a: ; }",
-        "source: E13 at node 9 \"a\"\n",
-    ),
-    ("a: b: a: for (;;) ;", "source: E13 at node 4 \"a\"\n"),
-    ("try {} catch (e) { (function() { var e }) }", ""),
-    ("try {} catch (e) { { let e } }", ""),
-    ("try {} catch (e) { e = 1 } finally { var e }", ""),
-    (
-        "try {} catch (e) { let e }",
-        "source: E14 at node 5 \"e\"\n",
-    ),
-    (
-        "try {} catch (e) { var e }",
-        "source: E14 at node 5 \"e\"\n",
-    ),
-    (
-        "try {} catch (e) { function e() {} }",
-        "source: E14 at node 5 \"e\"\n",
-    ),
-    (
-        "try {} catch (e) { for (var e of a) ; } finally {}",
-        "source: E14 at node 5 \"e\"\n",
-    ),
-    (
-        "try {} catch (e) { { { var b, e } } }",
-        "source: E14 at node 5 \"e\"\n",
-    ),
-    ("for (let i;;) { let i }", ""),
-    ("for (var i;;) { var i }", ""),
-    ("for (let i of a) { (function() { var i }) }", ""),
-    ("for (const i = 0; i < 1;) { i: ; }", ""),
-    ("for (let i;;) { var i }", "source: E15 at node 2 \"i\"\n"),
-    ("for (const i of a) var i;", "source: E15 at node 2 \"i\"\n"),
-    (
-        "for (let i in a) { for (var i in b) ; }",
-        "source: E15 at node 2 \"i\"\n",
-    ),
-    (
-        "for (let a, b;;) { { var c, b } }",
-        "source: E15 at node 2 \"b\"\n",
-    ),
-    ("a = 1;", ""),
-    ("a.b = 1; a[b] += 2;", ""),
-    ("for (a.b of c) ;", ""),
-    ("(a) = 1; ++a[0];", ""),
-    ("for (a() .b in c) ;", ""),
-    ("[a] = b;", "source: E16 at node 4\n"),
-    ("a() = 1;", "source: E16 at node 4\n"),
-    ("1 = a;", "source: E16 at node 4\n"),
-    ("++1;", "source: E16 at node 4\n"),
-    ("(a = b) = c;", "source: E16 at node 4\n"),
-    ("for (f() in b) ;", "source: E16 at node 4\n"),
-    ("for ({} of b) ;", "source: E16 at node 4\n"),
-    ("a + b += c", "source: E16 at node 4\n"),
-    ("this--", "source: E16 at node 4\n"),
-];
+/// Sources beside each early error of ECMA-262, a line each: those that have none, and those that have it, behind a tab.
+pub static EARLY: &str = "\
+let a; { let a; }
+function f() {} function f() {}
+for (let i, j;;) ;
+switch (a) { case 1: let b; } let b;
+var a, a;
+let a, a;\tE1 at node 0 \"a\"
+let a; const a = 1;\tE1 at node 0 \"a\"
+{ function f() {} let f; }\tE1 at node 2 \"f\"
+switch (a) { case 1: let b; default: let b; }\tE1 at node 2 \"b\"
+for (let i, i;;) ;\tE1 at node 2 \"i\"
+function f() { let a; let a; }\tE1 at node 4 \"a\"
+({ get a() { let b, b } })\tE1 at node 6 \"b\"
+let a; function f() { var a; }
+var a; { let a; }
+var a; var a; function a() {}
+{ let a; (() => { var a; }); }
+let x; var x;\tE2 at node 0 \"x\"
+{ let a; { var a; } }\tE2 at node 2 \"a\"
+let f; function f() {}\tE2 at node 0 \"f\"
+function f() { const a = 1; for (var a in b) ; }\tE2 at node 4 \"a\"
+{ function f() {} var f; }\tE2 at node 2 \"f\"
+switch (a) { default: let b; { var b } }\tE2 at node 2 \"b\"
+(function(a) { var a; })
+(function(a) { { let a; } })
+(a) => { var a }
+({ set b(a) { { let a } } })
+(function(a){ let a })\tE3 at node 5 \"a\"
+(a) => { const a = 1 }\tE3 at node 4 \"a\"
+({ set b(a) { let a } })\tE3 at node 6 \"a\"
+(function(b, ...a) { let c, a, b; })\tE3 at node 5 \"a\"
+({ m(a = 1) { let a } })\tE3 at node 6 \"a\"
+(function(a, a) {})
+function f(a, b, a) {}
+(a, b) => 1
+({ m(a, b) {} })
+(a, a) => 1\tE4 at node 3 \"a\"
+({ m(a, a) {} })\tE4 at node 6 \"a\"
+\"use strict\"; (function(a, a) {})\tE4 at node 6 \"a\"
+(function(a, a) { \"use strict\" })\tE4 at node 6 \"a\"
+(function(a, a = 1) {})\tE4 at node 5 \"a\"
+function f(a, ...a) {}\tE4 at node 4 \"a\"
+(a, b, b, a) => { }\tE4 at node 4 \"b\"
+(function(a) { \"use strict\" })
+\"use strict\"; (function(a = 1) {})
+(function(a = 1) { \"use\\x20strict\" })
+(function(a = 1) { (\"use strict\") })
+(function(a = 1){ \"use strict\" })\tE5 at node 6
+(...a) => { \"x\"; \"use strict\" }\tE5 at node 6
+({ m(a, b = 2) { 'use strict' } })\tE5 at node 7
+({ set m(a = 1) { \"use strict\" } })\tE5 at node 7
+eval = 1;
+\"use strict\"; eval(1); arguments[0] = 1;
+function f(eval) { arguments++ }
+\"use strict\"; eval.a = 1;
+\"use strict\"; eval = 1;\tE6 at node 5 \"eval\"
+\"use strict\"; arguments++;\tE6 at node 5 \"arguments\"
+\"use strict\"; var eval;\tE6 at node 5 \"eval\"
+\"use strict\"; for (arguments in b) ;\tE6 at node 5 \"arguments\"
+function eval() { \"use strict\" }\tE6 at node 3 \"eval\"
+\"use strict\"; (arguments) => 1\tE6 at node 7 \"arguments\"
+\"use strict\"; try {} catch (eval) {}\tE6 at node 8 \"eval\"
+function f() { \"use strict\"; (function() { --eval }) }\tE6 at node 18 \"eval\"
+delete x;
+\"use strict\"; delete x.y;
+\"use strict\"; delete x[y]; delete (x, y);
+\"use strict\"; delete x;\tE7 at node 4 \"x\"
+\"use strict\"; delete (x);\tE7 at node 4 \"x\"
+function f() { \"use strict\"; delete this, delete f }\tE7 at node 13 \"f\"
+\"use strict\"; () => delete a\tE7 at node 7 \"a\"
+static = public;
+var interface; package: ;
+\"use strict\"; a.static; ({ public: 1 });
+(function private(protected) {})
+\"use strict\"; static;\tE8 at node 4 \"static\"
+\"use strict\"; var interface;\tE8 at node 5 \"interface\"
+\"use strict\"; package: ;\tE8 at node 3 \"package\"
+(function private() { \"use strict\" })\tE8 at node 4 \"private\"
+\"use strict\"; for (;;) { break protected }\tE8 at node 7 \"protected\"
+\"use strict\"; (implements) => 1\tE8 at node 7 \"implements\"
+\"use strict\"; ({ public })\tE8 at node 6 \"public\"
+const c = 1;
+for (const c of d) ;
+for (const c in d) ;
+let c; var d;
+const c;\tE9 at node 3 \"c\"
+for (const c;;) ;\tE9 at node 5 \"c\"
+const a = 1, b;\tE9 at node 6 \"b\"
+{ const c }\tE9 at node 5 \"c\"
+function f() { return 1; }
+(() => { return })
+({ get a() { return } })
+return 1;\tE10 at node 2
+{ return }\tE10 at node 4
+if (a) return;\tE10 at node 4
+a: return\tE10 at node 3
+(function() {}); return\tE10 at node 9
+for (;;) break;
+while (1) { if (a) continue; }
+switch (a) { case 1: break }
+do { switch (a) { default: continue } } while (0)
+break;\tE11 at node 2
+continue;\tE11 at node 2
+switch (a) { case 1: continue }\tE11 at node 7
+for (;;) { (function() { break }) }\tE11 at node 13
+a: { break; }\tE11 at node 5
+while (() => { continue }) ;\tE11 at node 8
+a: { break a; }
+a: b: while (1) continue a;
+a: for (;;) { b: for (;;) { continue a } }
+a: switch (b) { default: break a }
+break a;\tE12 at node 2 \"a\"
+a: { (function() { break a }) }\tE12 at node 12 \"a\"
+a: { while (1) continue a; }\tE12 at node 7 \"a\"
+a: ; while (1) break a;\tE12 at node 6 \"a\"
+while (1) continue b;\tE12 at node 4 \"b\"
+a: for (;;) (() => { continue a })\tE12 at node 11 \"a\"
+a: ; a: ;
+a: { b: ; } b: ;
+a: (function() { a: ; });
+a: a: ;\tE13 at node 3 \"a\"
+a: { b: { a: ; } }\tE13 at node 8 \"a\"
+a: while (1) { if (b) a: ; }\tE13 at node 9 \"a\"
+a: b: a: for (;;) ;\tE13 at node 4 \"a\"
+try {} catch (e) { (function() { var e }) }
+try {} catch (e) { { let e } }
+try {} catch (e) { e = 1 } finally { var e }
+try {} catch (e) { let e }\tE14 at node 5 \"e\"
+try {} catch (e) { var e }\tE14 at node 5 \"e\"
+try {} catch (e) { function e() {} }\tE14 at node 5 \"e\"
+try {} catch (e) { for (var e of a) ; } finally {}\tE14 at node 5 \"e\"
+try {} catch (e) { { { var b, e } } }\tE14 at node 5 \"e\"
+for (let i;;) { let i }
+for (var i;;) { var i }
+for (let i of a) { (function() { var i }) }
+for (const i = 0; i < 1;) { i: ; }
+for (let i;;) { var i }\tE15 at node 2 \"i\"
+for (const i of a) var i;\tE15 at node 2 \"i\"
+for (let i in a) { for (var i in b) ; }\tE15 at node 2 \"i\"
+for (let a, b;;) { { var c, b } }\tE15 at node 2 \"b\"
+a = 1;
+a.b = 1; a[b] += 2;
+for (a.b of c) ;
+(a) = 1; ++a[0];
+for (a() .b in c) ;
+[a] = b;\tE16 at node 4
+a() = 1;\tE16 at node 4
+1 = a;\tE16 at node 4
+++1;\tE16 at node 4
+(a = b) = c;\tE16 at node 4
+for (f() in b) ;\tE16 at node 4
+for ({} of b) ;\tE16 at node 4
+a + b += c\tE16 at node 4
+this--\tE16 at node 4
+";
 
 /// Bytes that are no UTF-8, with the length of their longest front that is.
 pub static NO_TEXTS: &[(&[u8], u32)] = &[

@@ -94,7 +94,10 @@ fn encode_with_room(
 }
 
 // The first source that has another line than is told.
-fn first_lazy<'a>(alloc: Global, cases: &[(&'a str, &str)]) -> Result<Option<&'a str>, AllocError> {
+fn first_wrong<'a>(
+    alloc: Global,
+    cases: &[(&'a str, &str)],
+) -> Result<Option<&'a str>, AllocError> {
     for (source, line) in cases {
         if line_of_source(alloc, source.as_bytes())?.as_slice() != line.as_bytes() {
             return Ok(Some(*source));
@@ -105,14 +108,28 @@ fn first_lazy<'a>(alloc: Global, cases: &[(&'a str, &str)]) -> Result<Option<&'a
 
 #[test]
 fn refuses_what_has_no_tree(rt: HostRuntime) -> Result<(), Fail> {
-    assert_eq!(rt; first_lazy(rt.alloc(), source_cases::REFUSED)?, None);
+    assert_eq!(rt; first_wrong(rt.alloc(), source_cases::REFUSED)?, None);
     Ok(())
 }
 
 #[test]
 fn refuses_early_errors_and_nothing_beside_them(rt: HostRuntime) -> Result<(), Fail> {
-    assert_eq!(rt; first_lazy(rt.alloc(), source_cases::EARLY)?, None);
+    assert_eq!(rt; first_wrong_row(rt.alloc(), source_cases::EARLY)?, None);
     Ok(())
+}
+
+// The same of rows, each a source and an early error behind a tab, or a source alone.
+fn first_wrong_row(alloc: Global, rows: &str) -> Result<Option<&str>, AllocError> {
+    for row in rows.lines() {
+        let (source, line) = match row.split_once('\t') {
+            Some((source, error)) => (source, format!(in alloc; "source: {error}\n")?),
+            None => (row, String::new(alloc)),
+        };
+        if line_of_source(alloc, source.as_bytes())?.as_slice() != line.as_bytes() {
+            return Ok(Some(row));
+        }
+    }
+    Ok(None)
 }
 
 #[test]
