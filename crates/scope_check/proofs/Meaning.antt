@@ -194,8 +194,8 @@ mutual
       (least_in e (λ x. entered (functions fs) (facts_of d) x (cover_in fs x)) (functions fs) (told && says_eval d) names (n + nodes_at d) ds)
       (least_at e (cover_in fs) (functions fs) told n d) (least_in e (cover_in fs) (functions fs) told names (n + nodes_at d) ds)
       (least_in_same e (λ x. entered (functions fs) (facts_of d) x (cover_in fs x)) (cover_in (frame d ∷ fs)) (functions fs) (told && says_eval d) names (n + nodes_at d) ds (frame_entered d fs)
-        ∙ ap (λ m. least_in e (cover_in (frame d ∷ fs)) m (told && says_eval d) names (n + nodes_at d) ds) (functions_frame d fs)
-        ∙ least_in_is e (frame d ∷ fs) (told && says_eval d) names (n + nodes_at d) ds)
+      ∙ ap (λ m. least_in e (cover_in (frame d ∷ fs)) m (told && says_eval d) names (n + nodes_at d) ds) (functions_frame d fs)
+      ∙ least_in_is e (frame d ∷ fs) (told && says_eval d) names (n + nodes_at d) ds)
       (least_at_is e fs told n d) (least_in_is e fs told names (n + nodes_at d) ds)
 
   least_among_is : (e : Option ℕ) (fs : List Frame) (told : Bool) (n : ℕ) (ds : Data) → least_among e (cover_in fs) (functions fs) told n ds ≡ first (untrue_among e fs told n ds)

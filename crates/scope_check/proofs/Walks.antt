@@ -130,7 +130,7 @@ node_more e c now inside told n t k ds p names own st same nothing own_is inside
     ∙ ap (λ i. told_step (least_in e c i told names (n + 1) ds) (n + 1 + nodes_in ds)) (inside_is ∙ ap (λ q. inside_now q now) (part_is ∙ ap (λ u. part (kind_of u)) (sym same)))
     ∙ ap (λ ns. told_step (least_in e c (inside_now (part k) now) told ns (n + 1) ds) (n + 1 + nodes_in ds)) names_is
     ∙ by_parts (least_own e c now told n k ds) (least_in e c (inside_now (part k) now) told (bound ds) (n + 1) ds) (n + 1 + nodes_in ds) (n + (1 + nodes_in ds))
-        (sym nothing ∙ own_is ∙ ap (λ u. least_own e c now told n (kind_of u) (values_of u)) (sym same)) (omega arith)
+    (sym nothing ∙ own_is ∙ ap (λ u. least_own e c now told n (kind_of u) (values_of u)) (sym same)) (omega arith)
     ∙ ap (λ u. told_step (least e c now told n u) (n + nodes u)) same
 
 found_first : (o rest : Option Violation) (v : Violation) (n : ℕ) → Some v ≡ o → Found v ≡ told_step (or_else o rest) n
@@ -203,7 +203,7 @@ pub item_found : (e : Option ℕ) (b c : ℕ → Option Cover) (now : ℕ) (told
     → Found v ≡ told_step (least_among e c now told n ds) (n + nodes_in ds)
 item_found e b c now told next d rest all n ds v st is w same at_is st_is =
     found_first (least_at e c now told next d) (least_among e c now told (next + nodes_at d) rest) v (next + nodes_in (more d rest))
-        (sym (found_is (least_at e c now told next d) v (next + nodes_at d) (sym st_is ∙ at_is ∙ ap (λ o. told_step o (next + nodes_at d)) (least_at_same e b c now told next d same))))
+    (sym (found_is (least_at e c now told next d) v (next + nodes_at d) (sym st_is ∙ at_is ∙ ap (λ o. told_step o (next + nodes_at d)) (least_at_same e b c now told next d same))))
     ∙ ap (λ q. told_step (least_among e c now told next q) (next + nodes_in q)) (sym is)
     ∙ w.first
 

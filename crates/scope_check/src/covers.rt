@@ -80,11 +80,7 @@ fn put_facts(
 }
 
 /// Covers the names of the entries that aren't captured by such entries.
-fn mark_facts(
-    covers: &mut Vec<Option<Cover>>,
-    now: u32,
-    facts: &[FactName],
-) -> Result<(), Memory>
+fn mark_facts(covers: &mut Vec<Option<Cover>>, now: u32, facts: &[FactName]) -> Result<(), Memory>
     ensures { OnOk result ((x : ℕ) → cover_of covers.new.items x ≡ marked now facts.now x (cover_of covers.old.items x)) }
 {
     for fact in facts {

@@ -1,3 +1,7 @@
 use super::*;
 
+mod builder;
+mod cases;
+mod contexts;
+mod programs;
 mod scopes;

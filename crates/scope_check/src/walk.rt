@@ -165,7 +165,16 @@ fn walk_node(
     let inside = functions_inside(part_of(node.kind()), now);
     let mut names = Vec::new(alloc);
     put_bound(&mut names, fields)?;
-    walk_fields(alloc, eval, covers, inside, told, &names, number + 1, fields)
+    walk_fields(
+        alloc,
+        eval,
+        covers,
+        inside,
+        told,
+        &names,
+        number + 1,
+        fields,
+    )
 }
 
 /// The first violation in the fields of a node whose values bind these names.
