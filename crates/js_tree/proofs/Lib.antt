@@ -10,6 +10,7 @@ pub mod FollowFinishes
 pub mod FollowImage
 pub mod FollowRows
 pub mod FollowSteps
+pub mod Folding
 pub mod Following
 pub mod Gathering
 pub mod Gathers

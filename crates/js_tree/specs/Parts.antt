@@ -1,5 +1,5 @@
 -- What the symbols of a derivation stand for, and how a row takes the parts of its symbols.
-use Rattle.std.specs.Prelude.{◌==◌, length, List, [], ◌∷◌, Option, Result, Ok, if◌then◌else◌}
+use Rattle.std.specs.Prelude.{◌==◌, ◌&&◌, length, Bool, true, false, List, [], ◌∷◌, Option, Result, Ok, if◌then◌else◌}
 use Rattle.bast_base.specs.declared.errors.NameId.{NameId}
 use Rattle.bast_schema.specs.Tree.{Tree, Datum, child, Data, none, more, is_none}
 use Rattle.js_tree.specs.Results.{◌>>=◌, broken}
@@ -60,3 +60,21 @@ taken_endings _ = broken
 abbrev pub taken_items : List Part → Result (List Item × List Part) Fault
 taken_items (parts.Items is ∷ ps) = Ok (is, ps)
 taken_items _ = broken
+
+abbrev pub behind_top : List Part → List Part
+behind_top [] = []
+behind_top (p ∷ ps) = ps
+
+abbrev pub is_values : Part → Bool
+is_values (parts.Values ds raw) = true
+is_values _ = false
+
+-- no endings stand on top
+abbrev pub ends_nothing : List Part → Bool
+ends_nothing (parts.Endings es ∷ ps) = length es == 0
+ends_nothing _ = false
+
+-- whether the values on top have no endings behind them, and the parts without these
+abbrev pub without_no_endings : List Part → Bool × List Part
+without_no_endings [] = (false, [])
+without_no_endings (p ∷ ps) = if is_values p && ends_nothing ps then (true, p ∷ behind_top ps) else (false, p ∷ ps)

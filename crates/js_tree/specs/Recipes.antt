@@ -10,6 +10,10 @@ use Rattle.js_tree.specs.declared.recipe.Finish.TheVariants as finishes
 use Rattle.js_tree.specs.declared.recipe.Step.{Step}
 use Rattle.js_tree.specs.declared.recipe.Step.TheVariants as steps
 
+-- an operand with what is put around it
+abbrev pub operand_and_tail : List Step × Finish
+operand_and_tail = (steps.Operand ∷ steps.Tail ∷ [], finishes.Folds)
+
 -- the steps that gather, and what is made of what was gathered
 abbrev pub recipe : RowId → List Step × Finish
 -- Scripts and lists of statements and declarations (15.1, 13.2)
@@ -96,31 +100,31 @@ recipe rows.FinEmpty = ([], finishes.Values)
 recipe (rows.Expr m) = (steps.Operand ∷ steps.Hold ∷ steps.Put ∷ [], finishes.Sequence)
 recipe (rows.Comma m) = (steps.Skip ∷ steps.Put ∷ steps.Put ∷ [], finishes.Values)
 recipe (rows.CommaEmpty m) = ([], finishes.Values)
-recipe (rows.Assign m) = (steps.Operand ∷ steps.Tail ∷ [], finishes.Folds)
+recipe (rows.Assign m) = operand_and_tail
 recipe (rows.AssignTailEquals m) = (steps.Skip ∷ steps.Put ∷ [], finishes.Ends kinds.AssignmentExpression)
 recipe (rows.AssignTailCompound m) = ((steps.Operator sets.CompoundOperator) ∷ steps.Hold ∷ steps.Put ∷ [], finishes.Ends kinds.CompoundAssignmentExpression)
 recipe (rows.AssignTailArrow m) = (steps.Skip ∷ steps.Tail ∷ [], finishes.Endings)
 recipe (rows.AssignTailEmpty m) = ([], finishes.Endings)
 recipe (rows.ArrowBody m) = (steps.Skip ∷ steps.Body ∷ steps.Skip ∷ [], finishes.ArrowBody)
 recipe (rows.ArrowExpr m) = (steps.ParameterScope ∷ steps.Hold ∷ steps.Put ∷ [], finishes.EndsParameters kinds.EagerArrowExpressionWithExpression)
-recipe (rows.Cond m) = (steps.Operand ∷ steps.Tail ∷ [], finishes.Folds)
+recipe (rows.Cond m) = operand_and_tail
 recipe (rows.CondTail m) = (steps.Skip ∷ steps.Put ∷ steps.Skip ∷ steps.Put ∷ [], finishes.Ends kinds.ConditionalExpression)
 recipe (rows.CondTailEmpty m) = ([], finishes.Endings)
 -- Binary operators (12.6 to 12.12)
-recipe (rows.Level n m) = (steps.Operand ∷ steps.Tail ∷ [], finishes.Folds)
+recipe (rows.Level n m) = operand_and_tail
 recipe (rows.LevelTail n m) = ((steps.Operator sets.BinaryOperator) ∷ steps.Hold ∷ steps.Put ∷ steps.Tail ∷ [], finishes.Ends kinds.BinaryExpression)
 recipe (rows.LevelTailEmpty n m) = ([], finishes.Endings)
 -- Unary operators and updates (12.4, 12.5)
 recipe rows.UnaryOperator = ((steps.Operator sets.UnaryOperator) ∷ steps.Put ∷ (steps.Close kinds.UnaryExpression) ∷ [], finishes.Values)
 recipe rows.UnaryIncrement = ((steps.Flag true) ∷ (steps.Operator sets.UpdateOperator) ∷ steps.Put ∷ (steps.Close kinds.UpdateExpression) ∷ [], finishes.Values)
 recipe rows.UnaryDecrement = ((steps.Flag true) ∷ (steps.Operator sets.UpdateOperator) ∷ steps.Put ∷ (steps.Close kinds.UpdateExpression) ∷ [], finishes.Values)
-recipe rows.UnaryLhs = (steps.Operand ∷ steps.Tail ∷ [], finishes.Folds)
+recipe rows.UnaryLhs = operand_and_tail
 recipe rows.PostIncrement = ((steps.Flag false) ∷ (steps.Operator sets.UpdateOperator) ∷ steps.Hold ∷ [], finishes.Ends kinds.UpdateExpression)
 recipe rows.PostDecrement = ((steps.Flag false) ∷ (steps.Operator sets.UpdateOperator) ∷ steps.Hold ∷ [], finishes.Ends kinds.UpdateExpression)
 recipe rows.PostEmpty = ([], finishes.Endings)
 -- Members, calls and new (12.3)
-recipe rows.LhsNew = (steps.Operand ∷ steps.Tail ∷ [], finishes.Folds)
-recipe rows.LhsPrimary = (steps.Operand ∷ steps.Tail ∷ [], finishes.Folds)
+recipe rows.LhsNew = operand_and_tail
+recipe rows.LhsPrimary = operand_and_tail
 recipe rows.LhsTailAccess = (steps.Tail ∷ steps.Tail ∷ [], finishes.Endings)
 recipe rows.LhsTailCall = (steps.Skip ∷ steps.Wrap ∷ steps.Skip ∷ steps.Tail ∷ [], finishes.Ends kinds.CallExpression)
 recipe rows.LhsTailEmpty = ([], finishes.Endings)

@@ -1,8 +1,9 @@
 //! The tree of a whole derivation.
 
-ghost use Rattle.std.specs.Prelude.{◌≡◌, reverse};
+ghost use Rattle.std.specs.Prelude.{◌≡◌, reverse, true};
 ghost use Rattle.js_tree.specs.Image.{event_part, image, leaf_part, root, row_part, tree_of};
 ghost use Rattle.js_tree.specs.Nodes.{limited};
+ghost use Rattle.js_tree.specs.Recipes.{operand_and_tail, recipe};
 ghost use Rattle.js_tree.specs.Results.{Gives};
 
 use crate::fault::Fault;
@@ -72,8 +73,34 @@ fn build_event(
     }
 }
 
-#[tactic(auto, unfolding(crate::specs::Image::row_part))]
+#[tactic(auto, using(crate::proofs::Folding::nothing_folds, crate::proofs::Folding::something_stays))]
 fn build_row(alloc: Global, row: RowId, parts: &mut Parts) -> Result<(), Fault>
+    ensures { Gives result (λ _. parts.new) (row_part limited row parts.old) }
+{
+    // Most rows are those of an expression that has no operator of its level, which leave their operand as it is.
+    if folds_operand(row) && parts.drop_no_endings()? {
+        return Ok(());
+    }
+    gather_row(alloc, row, parts)
+}
+
+// Whether a row puts what its second symbol stands for around what its first stands for.
+fn folds_operand(row: RowId) -> bool
+    ensures { result ≡ true → recipe row ≡ operand_and_tail }
+{
+    matches!(
+        row,
+        RowId::Assign(_)
+            | RowId::Cond(_)
+            | RowId::Level(_, _)
+            | RowId::UnaryLhs
+            | RowId::LhsNew
+            | RowId::LhsPrimary
+    )
+}
+
+#[tactic(auto, unfolding(crate::specs::Image::row_part))]
+fn gather_row(alloc: Global, row: RowId, parts: &mut Parts) -> Result<(), Fault>
     ensures { Gives result (λ _. parts.new) (row_part limited row parts.old) }
 {
     let work = gather(alloc, steps_of(row), parts)?;

@@ -1,7 +1,7 @@
 //! What the symbols of a derivation stand for, while its tree is built.
 
 ghost use Rattle.std.specs.Prelude.{◌≡◌, ◌==◌, [], ◌∷◌, ◌++◌, length, option_to_list, IfNone, Ok};
-ghost use Rattle.js_tree.specs.Parts.{one_ending, taken_endings, taken_items, taken_leaf, taken_values, without_top};
+ghost use Rattle.js_tree.specs.Parts.{ends_nothing, is_values, one_ending, taken_endings, taken_items, taken_leaf, taken_values, without_no_endings, without_top};
 ghost use Rattle.js_tree.specs.Results.{Gives};
 ghost use Rattle.js_tree.specs.Statements.{first_directive};
 
@@ -128,6 +128,14 @@ impl Model for Parts {
     ghost view = { λ p. reverse p.stack.items };
 }
 
+impl Part {
+    fn is_values(&self) -> bool
+        ensures { result ≡ is_values self.now }
+    {
+        matches!(self, Part::Values { .. })
+    }
+}
+
 impl Parts {
     /// An empty stack.
     pub(crate) fn new(alloc: Global) -> Parts
@@ -150,6 +158,31 @@ impl Parts {
         ensures { result ≡ (length self.now == 0) }
     {
         self.stack.is_empty()
+    }
+
+    /// Takes off the endings under the values on top where there are none of them, and tells whether it did.
+    pub(crate) fn drop_no_endings(&mut self) -> Result<bool, Fault>
+        ensures { Gives result (λ dropped. (dropped, self.new)) (Ok (without_no_endings self.old)) }
+    {
+        let Some(top) = self.stack.pop() else {
+            return Ok(false);
+        };
+        let dropped = top.is_values() && self.ends_nothing();
+        if dropped {
+            self.stack.pop();
+        }
+        self.stack.push(top)?;
+        Ok(dropped)
+    }
+
+    // Whether no endings are on top.
+    fn ends_nothing(&self) -> bool
+        ensures { result ≡ ends_nothing self.now }
+    {
+        match self.stack.last() {
+            Some(Part::Endings(endings)) => endings.is_empty(),
+            _ => false,
+        }
     }
 
     /// Takes off the top, whatever it is.
