@@ -67,6 +67,8 @@ pub fn parse(alloc: Global, text: &str, strings: &mut StringTable) -> Result<Nod
         Ok(leaves) => leaves,
         Err(Memory) => return Err(SourceFault::Memory),
     };
+    // The tree is made of the steps and the leaves alone.
+    drop(tokens);
     match build_tree(alloc, &events, leaves) {
         Ok(tree) => Ok(tree),
         Err(Fault::Memory) => Err(SourceFault::Memory),

@@ -11,8 +11,16 @@ use Rattle.js_tree.specs.declared.recipe.Step.{Step}
 use Rattle.js_tree.specs.declared.recipe.Step.TheVariants as steps
 
 -- an operand with what is put around it
-abbrev pub operand_and_tail : List Step × Finish
-operand_and_tail = (steps.Operand ∷ steps.Tail ∷ [], finishes.Folds)
+abbrev pub operand_with_tail : List Step × Finish
+operand_with_tail = (steps.Operand ∷ steps.Tail ∷ [], finishes.Folds)
+
+-- nothing is put around an operand
+abbrev pub no_endings : List Step × Finish
+no_endings = ([], finishes.Endings)
+
+-- one symbol, which stands for the row as it is
+abbrev pub one_symbol : List Step × Finish
+one_symbol = ([], finishes.Same)
 
 -- the steps that gather, and what is made of what was gathered
 abbrev pub recipe : RowId → List Step × Finish
@@ -20,9 +28,9 @@ abbrev pub recipe : RowId → List Step × Finish
 recipe rows.Script = (steps.Hold ∷ (steps.Scope kinds.AssertedScriptGlobalScope) ∷ steps.Body ∷ steps.Skip ∷ steps.Resume ∷ (steps.Close kinds.Script) ∷ [], finishes.Values)
 recipe rows.Items = (steps.Operand ∷ steps.Rest ∷ [], finishes.Items)
 recipe rows.ItemsEmpty = ([], finishes.NoItems)
-recipe rows.ItemFunction = ([], finishes.Same)
-recipe rows.ItemLexical = ([], finishes.Same)
-recipe rows.ItemStat = ([], finishes.Same)
+recipe rows.ItemFunction = one_symbol
+recipe rows.ItemLexical = one_symbol
+recipe rows.ItemStat = one_symbol
 -- Declarations of variables (13.3)
 recipe rows.LexicalLet = (steps.Skip ∷ (steps.Choice 0) ∷ steps.Wrap ∷ steps.Skip ∷ (steps.Close kinds.LexicalDeclaration) ∷ [], finishes.Values)
 recipe rows.LexicalConst = (steps.Skip ∷ (steps.Choice 1) ∷ steps.Wrap ∷ steps.Skip ∷ (steps.Close kinds.LexicalDeclaration) ∷ [], finishes.Values)
@@ -42,8 +50,8 @@ recipe rows.ParamTailEmpty = (steps.Absent ∷ [], finishes.Values)
 recipe rows.ParamNext = (steps.Parameter ∷ steps.Put ∷ [], finishes.Values)
 recipe rows.ParamNextRest = (steps.Skip ∷ (steps.Named kinds.BindingIdentifier) ∷ [], finishes.Values)
 -- Statements (13)
-recipe rows.Body = ([], finishes.Same)
-recipe rows.StatBlock = ([], finishes.Same)
+recipe rows.Body = one_symbol
+recipe rows.StatBlock = one_symbol
 recipe rows.StatVar = (steps.Skip ∷ steps.Wrap ∷ steps.Skip ∷ (steps.Close kinds.VarDeclaration) ∷ [], finishes.Values)
 recipe rows.StatEmpty = (steps.Skip ∷ (steps.Close kinds.EmptyStatement) ∷ [], finishes.Values)
 recipe rows.StatDebugger = (steps.Skip ∷ steps.Skip ∷ (steps.Close kinds.DebuggerStatement) ∷ [], finishes.Values)
@@ -100,42 +108,42 @@ recipe rows.FinEmpty = ([], finishes.Values)
 recipe (rows.Expr m) = (steps.Operand ∷ steps.Hold ∷ steps.Put ∷ [], finishes.Sequence)
 recipe (rows.Comma m) = (steps.Skip ∷ steps.Put ∷ steps.Put ∷ [], finishes.Values)
 recipe (rows.CommaEmpty m) = ([], finishes.Values)
-recipe (rows.Assign m) = operand_and_tail
+recipe (rows.Assign m) = operand_with_tail
 recipe (rows.AssignTailEquals m) = (steps.Skip ∷ steps.Put ∷ [], finishes.Ends kinds.AssignmentExpression)
 recipe (rows.AssignTailCompound m) = ((steps.Operator sets.CompoundOperator) ∷ steps.Hold ∷ steps.Put ∷ [], finishes.Ends kinds.CompoundAssignmentExpression)
 recipe (rows.AssignTailArrow m) = (steps.Skip ∷ steps.Tail ∷ [], finishes.Endings)
-recipe (rows.AssignTailEmpty m) = ([], finishes.Endings)
+recipe (rows.AssignTailEmpty m) = no_endings
 recipe (rows.ArrowBody m) = (steps.Skip ∷ steps.Body ∷ steps.Skip ∷ [], finishes.ArrowBody)
 recipe (rows.ArrowExpr m) = (steps.ParameterScope ∷ steps.Hold ∷ steps.Put ∷ [], finishes.EndsParameters kinds.EagerArrowExpressionWithExpression)
-recipe (rows.Cond m) = operand_and_tail
+recipe (rows.Cond m) = operand_with_tail
 recipe (rows.CondTail m) = (steps.Skip ∷ steps.Put ∷ steps.Skip ∷ steps.Put ∷ [], finishes.Ends kinds.ConditionalExpression)
-recipe (rows.CondTailEmpty m) = ([], finishes.Endings)
+recipe (rows.CondTailEmpty m) = no_endings
 -- Binary operators (12.6 to 12.12)
-recipe (rows.Level n m) = operand_and_tail
+recipe (rows.Level n m) = operand_with_tail
 recipe (rows.LevelTail n m) = ((steps.Operator sets.BinaryOperator) ∷ steps.Hold ∷ steps.Put ∷ steps.Tail ∷ [], finishes.Ends kinds.BinaryExpression)
-recipe (rows.LevelTailEmpty n m) = ([], finishes.Endings)
+recipe (rows.LevelTailEmpty n m) = no_endings
 -- Unary operators and updates (12.4, 12.5)
 recipe rows.UnaryOperator = ((steps.Operator sets.UnaryOperator) ∷ steps.Put ∷ (steps.Close kinds.UnaryExpression) ∷ [], finishes.Values)
 recipe rows.UnaryIncrement = ((steps.Flag true) ∷ (steps.Operator sets.UpdateOperator) ∷ steps.Put ∷ (steps.Close kinds.UpdateExpression) ∷ [], finishes.Values)
 recipe rows.UnaryDecrement = ((steps.Flag true) ∷ (steps.Operator sets.UpdateOperator) ∷ steps.Put ∷ (steps.Close kinds.UpdateExpression) ∷ [], finishes.Values)
-recipe rows.UnaryLhs = operand_and_tail
+recipe rows.UnaryLhs = operand_with_tail
 recipe rows.PostIncrement = ((steps.Flag false) ∷ (steps.Operator sets.UpdateOperator) ∷ steps.Hold ∷ [], finishes.Ends kinds.UpdateExpression)
 recipe rows.PostDecrement = ((steps.Flag false) ∷ (steps.Operator sets.UpdateOperator) ∷ steps.Hold ∷ [], finishes.Ends kinds.UpdateExpression)
-recipe rows.PostEmpty = ([], finishes.Endings)
+recipe rows.PostEmpty = no_endings
 -- Members, calls and new (12.3)
-recipe rows.LhsNew = operand_and_tail
-recipe rows.LhsPrimary = operand_and_tail
+recipe rows.LhsNew = operand_with_tail
+recipe rows.LhsPrimary = operand_with_tail
 recipe rows.LhsTailAccess = (steps.Tail ∷ steps.Tail ∷ [], finishes.Endings)
 recipe rows.LhsTailCall = (steps.Skip ∷ steps.Wrap ∷ steps.Skip ∷ steps.Tail ∷ [], finishes.Ends kinds.CallExpression)
-recipe rows.LhsTailEmpty = ([], finishes.Endings)
-recipe rows.Again = ([], finishes.Same)
+recipe rows.LhsTailEmpty = no_endings
+recipe rows.Again = one_symbol
 recipe rows.AccessName = (steps.Skip ∷ steps.Text ∷ [], finishes.Ends kinds.StaticMemberExpression)
 recipe rows.AccessIndex = (steps.Skip ∷ steps.Put ∷ steps.Skip ∷ [], finishes.Ends kinds.ComputedMemberExpression)
 recipe rows.New = (steps.Skip ∷ steps.Put ∷ steps.Tail ∷ [], finishes.Folds)
 recipe rows.CalleeNew = (steps.Put ∷ steps.Tail ∷ [], finishes.Folds)
 recipe rows.CalleePrimary = (steps.Put ∷ steps.Tail ∷ [], finishes.Folds)
 recipe rows.MemberTail = (steps.Tail ∷ steps.Tail ∷ [], finishes.Endings)
-recipe rows.MemberTailEmpty = ([], finishes.Endings)
+recipe rows.MemberTailEmpty = no_endings
 recipe rows.NewArgs = (steps.Skip ∷ steps.Wrap ∷ steps.Skip ∷ [], finishes.Ends kinds.NewExpression)
 recipe rows.NewArgsEmpty = (steps.NoItems ∷ [], finishes.Ends kinds.NewExpression)
 recipe rows.Args = (steps.Put ∷ steps.Put ∷ [], finishes.Values)
@@ -180,18 +188,18 @@ recipe rows.PropText = ((steps.Named kinds.LiteralPropertyName) ∷ steps.Tail �
 recipe rows.PropNumber = ((steps.Named kinds.LiteralPropertyName) ∷ steps.Tail ∷ [], finishes.Folds)
 recipe rows.PropComputed = (steps.Skip ∷ steps.Put ∷ (steps.Close kinds.ComputedPropertyName) ∷ steps.Skip ∷ steps.Tail ∷ [], finishes.Folds)
 recipe rows.LongValue = (steps.Skip ∷ steps.Put ∷ [], finishes.Ends kinds.DataProperty)
-recipe rows.LongMethod = ([], finishes.Same)
+recipe rows.LongMethod = one_symbol
 recipe rows.ShortValue = (steps.Skip ∷ steps.Put ∷ [], finishes.Ends kinds.DataProperty)
-recipe rows.ShortMethod = ([], finishes.Same)
-recipe rows.ShortEmpty = ([], finishes.Endings)
+recipe rows.ShortMethod = one_symbol
+recipe rows.ShortEmpty = no_endings
 recipe rows.GetRestValue = (steps.Skip ∷ steps.Put ∷ [], finishes.Ends kinds.DataProperty)
-recipe rows.GetRestMethod = ([], finishes.Same)
+recipe rows.GetRestMethod = one_symbol
 recipe rows.GetRestGetter = (steps.Put ∷ steps.Hold ∷ steps.Skip ∷ steps.Skip ∷ steps.Skip ∷ (steps.Scope kinds.AssertedVarScope) ∷ steps.Body ∷ steps.Skip ∷ (steps.Close kinds.GetterContents) ∷ steps.Resume ∷ (steps.Close kinds.EagerGetter) ∷ [], finishes.Instead)
-recipe rows.GetRestEmpty = ([], finishes.Endings)
+recipe rows.GetRestEmpty = no_endings
 recipe rows.SetRestValue = (steps.Skip ∷ steps.Put ∷ [], finishes.Ends kinds.DataProperty)
-recipe rows.SetRestMethod = ([], finishes.Same)
+recipe rows.SetRestMethod = one_symbol
 recipe rows.SetRestSetter = (steps.Put ∷ steps.Hold ∷ steps.Skip ∷ steps.ParameterScope ∷ steps.Parameter ∷ steps.Skip ∷ steps.Skip ∷ (steps.Scope kinds.AssertedVarScope) ∷ steps.Body ∷ steps.Skip ∷ (steps.Close kinds.SetterContents) ∷ steps.Resume ∷ (steps.Close kinds.EagerSetter) ∷ [], finishes.Instead)
-recipe rows.SetRestEmpty = ([], finishes.Endings)
+recipe rows.SetRestEmpty = no_endings
 recipe rows.Method = (steps.Hold ∷ steps.Skip ∷ steps.ParameterScope ∷ steps.Put ∷ steps.Skip ∷ steps.Skip ∷ (steps.Scope kinds.AssertedVarScope) ∷ steps.Body ∷ steps.Skip ∷ (steps.Close kinds.FunctionContents) ∷ steps.Resume ∷ [], finishes.Ends kinds.EagerMethod)
 recipe rows.PropNameName = ((steps.Named kinds.LiteralPropertyName) ∷ [], finishes.Values)
 recipe rows.PropNameText = ((steps.Named kinds.LiteralPropertyName) ∷ [], finishes.Values)

@@ -3,13 +3,13 @@
 ghost use Rattle.std.specs.Prelude.{◌≡◌, reverse, true};
 ghost use Rattle.js_tree.specs.Image.{event_part, image, leaf_part, root, row_part, tree_of};
 ghost use Rattle.js_tree.specs.Nodes.{limited};
-ghost use Rattle.js_tree.specs.Recipes.{operand_and_tail, recipe};
+ghost use Rattle.js_tree.specs.Recipes.{no_endings, one_symbol, operand_with_tail, recipe};
 ghost use Rattle.js_tree.specs.Results.{Gives};
 
 use crate::fault::Fault;
 use crate::finishes::finish;
 use crate::leaf::Leaf;
-use crate::parts::{Part, Parts};
+use crate::parts::{Endings, Part, Parts};
 use crate::recipes::{finish_of, steps_of};
 use crate::steps::gather;
 use bast_schema::{Node, Value};
@@ -73,20 +73,79 @@ fn build_event(
     }
 }
 
-#[tactic(auto, using(crate::proofs::Folding::nothing_folds, crate::proofs::Folding::something_stays))]
+// Most rows of an expression are those of operators that it does not have. They put nothing around their operand, and are
+// built without gathering.
+#[tactic(auto, using(crate::proofs::Folding::none_put, crate::proofs::Folding::symbol_stays))]
 fn build_row(alloc: Global, row: RowId, parts: &mut Parts) -> Result<(), Fault>
     ensures { Gives result (λ _. parts.new) (row_part limited row parts.old) }
 {
-    // Most rows are those of an expression that has no operator of its level, which leave their operand as it is.
-    if folds_operand(row) && parts.drop_no_endings()? {
+    if puts_no_endings(row) {
+        return parts.push(Part::Endings(Endings::new(alloc)));
+    }
+    if is_one_symbol(row) {
+        return Ok(());
+    }
+    if is_operand_with_tail(row) {
+        return build_operand(alloc, row, parts);
+    }
+    gather_row(alloc, row, parts)
+}
+
+fn build_operand(alloc: Global, row: RowId, parts: &mut Parts) -> Result<(), Fault>
+    requires { recipe row ≡ operand_with_tail }
+    ensures { Gives result (λ _. parts.new) (row_part limited row parts.old) }
+{
+    if parts.drop_no_endings()? {
         return Ok(());
     }
     gather_row(alloc, row, parts)
 }
 
-// Whether a row puts what its second symbol stands for around what its first stands for.
-fn folds_operand(row: RowId) -> bool
-    ensures { result ≡ true → recipe row ≡ operand_and_tail }
+#[tactic(auto, unfolding(crate::specs::Image::row_part))]
+fn gather_row(alloc: Global, row: RowId, parts: &mut Parts) -> Result<(), Fault>
+    ensures { Gives result (λ _. parts.new) (row_part limited row parts.old) }
+{
+    let work = gather(alloc, steps_of(row), parts)?;
+    finish(alloc, finish_of(row), work, parts)
+}
+
+fn puts_no_endings(row: RowId) -> bool
+    ensures { result ≡ true → recipe row ≡ no_endings }
+{
+    matches!(
+        row,
+        RowId::AssignTailEmpty(_)
+            | RowId::CondTailEmpty(_)
+            | RowId::LevelTailEmpty(_, _)
+            | RowId::PostEmpty
+            | RowId::LhsTailEmpty
+            | RowId::MemberTailEmpty
+            | RowId::ShortEmpty
+            | RowId::GetRestEmpty
+            | RowId::SetRestEmpty
+    )
+}
+
+fn is_one_symbol(row: RowId) -> bool
+    ensures { result ≡ true → recipe row ≡ one_symbol }
+{
+    matches!(
+        row,
+        RowId::ItemFunction
+            | RowId::ItemLexical
+            | RowId::ItemStat
+            | RowId::Body
+            | RowId::StatBlock
+            | RowId::Again
+            | RowId::LongMethod
+            | RowId::ShortMethod
+            | RowId::GetRestMethod
+            | RowId::SetRestMethod
+    )
+}
+
+fn is_operand_with_tail(row: RowId) -> bool
+    ensures { result ≡ true → recipe row ≡ operand_with_tail }
 {
     matches!(
         row,
@@ -97,14 +156,6 @@ fn folds_operand(row: RowId) -> bool
             | RowId::LhsNew
             | RowId::LhsPrimary
     )
-}
-
-#[tactic(auto, unfolding(crate::specs::Image::row_part))]
-fn gather_row(alloc: Global, row: RowId, parts: &mut Parts) -> Result<(), Fault>
-    ensures { Gives result (λ _. parts.new) (row_part limited row parts.old) }
-{
-    let work = gather(alloc, steps_of(row), parts)?;
-    finish(alloc, finish_of(row), work, parts)
 }
 
 fn build_leaf(leaves: &mut Vec<Leaf>, parts: &mut Parts) -> Result<(), Fault>

@@ -29,9 +29,7 @@ pub(crate) fn make(kind: Kind, fields: Run) -> Result<Node, Fault>
 pub(crate) fn one(alloc: Global, value: Value) -> Result<Run, Fault>
     ensures { Gives result (λ r. r) (Ok (one (datum value))) }
 {
-    let mut run = Run::new(alloc);
-    run.put(value)?;
-    Ok(run)
+    Run::one(alloc, value)
 }
 
 /// Two values.

@@ -53,12 +53,22 @@ impl Run {
         Run { backwards: values }
     }
 
-    /// The values, in order.
+    /// The one value, in no more room than it takes.
+    pub(crate) fn one(alloc: Global, value: Value) -> Result<Run, Fault>
+        ensures { Gives result (λ r. r) (Ok (more (datum value) none)) }
+    {
+        let mut backwards = Vec::with_capacity(alloc, 1)?;
+        backwards.push(value)?;
+        Ok(Run { backwards })
+    }
+
+    /// The values, in order, in no more room than they take.
     pub(crate) fn into_vec(self) -> Vec<Value>
         ensures { data_of result.items ≡ self }
     {
         let Run { mut backwards } = self;
         backwards.reverse();
+        backwards.shrink_to_fit();
         backwards
     }
 

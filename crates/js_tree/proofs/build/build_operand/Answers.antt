@@ -1,7 +1,7 @@
 use Rattle.std.proofs.Common.{rules, ◌≡◌, true}
 use Rattle.js_tree.specs.Nodes.{limited}
 use Rattle.js_tree.proofs.Folding.{nothing_folds}
-use Rattle.js_tree.proofs.build.build_row.Goals as goal
+use Rattle.js_tree.proofs.build.build_operand.Goals as goal
 
 -- src/build.rt:82:9
 pub returns-then-branch : goal.returns-then-branch
