@@ -1,7 +1,6 @@
 -- The names of tokens.
-use Rattle.std.specs.Prelude.{◌≡◌, ℕ, Bool, true, ◌&&◌, List, [], ◌∷◌, Option, Some, None}
+use Rattle.std.specs.Prelude.{◌≡◌, ℕ, Bool, true, List, [], ◌∷◌, Option, Some, None}
 use Rattle.bast_base.specs.declared.errors.NameId.{NameId}
-use Rattle.bast_schema.specs.Tree.{Tree, branch, Datum, child, listed, name, Data, none, more}
 use Rattle.js_tree.specs.declared.leaf.Leaf.{Leaf}
 
 -- it holds of the text and the raw text of each token that has them

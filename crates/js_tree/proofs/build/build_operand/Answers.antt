@@ -1,4 +1,4 @@
-use Rattle.std.proofs.Common.{rules, ◌≡◌, true}
+use Rattle.std.proofs.Common.{rules, true}
 use Rattle.js_tree.specs.Nodes.{limited}
 use Rattle.js_tree.proofs.Folding.{nothing_folds}
 use Rattle.js_tree.proofs.build.build_operand.Goals as goal
