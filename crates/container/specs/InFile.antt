@@ -1,5 +1,5 @@
 -- The grammar of files: which whole trees a whole file spells.
-use Rattle.std.specs.Prelude.{◌≡◌, ℕ, ◌<◌, ◌≤◌, ◌^◌, Bool, true, List, ◌∷◌, Option, Some, None, length, not, ◌&&◌, IsTrue}
+use Rattle.std.specs.Prelude.{◌≡◌, ℕ, ◌<◌, ◌≤◌, ◌^◌, Bool, true, List, ◌∷◌, Option, Some, None, length, ◌&&◌, IsTrue}
 use Rattle.std.specs.List.{list_all, list_any, AllByRecursion, IsDistinct}
 use Rattle.std.specs.Str.{is_utf8}
 use Rattle.bast_schema.specs.declared.kind.Kind.TheVariants.{Script}

@@ -1,4 +1,4 @@
-use Rattle.std.proofs.Common.{◌-◌, ◌+◌, ◌≤◌, ◌<◌, ◌^◌, slice_range}
+use Rattle.std.proofs.Common.{◌-◌, ◌+◌, ◌≤◌, slice_range}
 use Rattle.var_numbers.proofs.ReadingLemmas.{Reading}
 use Rattle.var_numbers.proofs.varnum_read.read_varnum.Given as goal
 
