@@ -1,4 +1,4 @@
-ghost use Rattle.std.specs.Prelude.{◌≡◌, ◌++◌, ◌<◌, ◌≤◌, ◌+◌, ◌^◌, IfOk, OnOk, ℕ, Some, None, false, nat_eq, length, Option, if◌then◌else◌};
+ghost use Rattle.std.specs.Prelude.{◌≡◌, ◌<◌, ◌+◌, ◌^◌, IfOk, OnOk, ℕ, Some, false, nat_eq, length, Option, if◌then◌else◌};
 ghost use Rattle.bast_schema.specs.View.{datum, data_of};
 ghost use Rattle.scope_facts.specs.Covers.{cover_of, touched, has_name, restored, names_among, entry_names, entry_name, inside_now};
 ghost use Rattle.scope_facts.specs.declared.covers.Cover.{Cover};
@@ -49,7 +49,11 @@ fn make_room(covers: &mut Vec<Option<Cover>>, name: u32) -> Result<(), Memory>
 }
 
 /// Changes the cover of a name, and of no other.
-pub fn put_cover(covers: &mut Vec<Option<Cover>>, name: u32, cover: Option<Cover>) -> Result<(), Memory>
+pub fn put_cover(
+    covers: &mut Vec<Option<Cover>>,
+    name: u32,
+    cover: Option<Cover>,
+) -> Result<(), Memory>
     ensures { OnOk result ((x : ℕ) → cover_of covers.new.items x ≡ (if nat_eq name x then cover else cover_of covers.old.items x)) }
 {
     make_room(covers, name)?;

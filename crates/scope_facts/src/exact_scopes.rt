@@ -1,5 +1,4 @@
 ghost use Rattle.std.specs.Prelude.{◌≡◌, ◌≤◌, ◌^◌, IfOk, ℕ, Bool, true};
-ghost use Rattle.std.specs.Option.{option_map};
 ghost use Rattle.bast_schema.specs.Counts.{is_whole, size};
 ghost use Rattle.bast_schema.specs.Tree.{depth};
 ghost use Rattle.scope_facts.specs.Exact.{exact};

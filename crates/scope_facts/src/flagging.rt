@@ -1,4 +1,4 @@
-ghost use Rattle.std.specs.Prelude.{◌≡◌, ◌≤◌, ◌+◌, IfOk, OnOk, ℕ};
+ghost use Rattle.std.specs.Prelude.{◌≡◌, ◌≤◌, ◌+◌, IfOk, OnOk};
 ghost use Rattle.bast_schema.specs.Tree.{depth, depth_at, depth_in};
 ghost use Rattle.bast_schema.specs.View.{datum, data_of};
 ghost use Rattle.scope_facts.specs.Uses.{used, used_at, used_in, used_among, crossed, crossed_at, crossed_in, crossed_among, evals, evals_at, evals_in, evals_among};

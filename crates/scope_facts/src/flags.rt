@@ -1,9 +1,8 @@
-ghost use Rattle.std.specs.Prelude.{◌≡◌, ◌≤◌, ◌+◌, ◌^◌, IfOk, OnOk, ℕ, true, false};
-ghost use Rattle.bast_schema.specs.Tree.{depth, depth_at, depth_in};
+ghost use Rattle.std.specs.Prelude.{◌≡◌, IfOk, OnOk, ℕ, false};
 ghost use Rattle.bast_schema.specs.View.{datum, data_of};
-ghost use Rattle.scope_facts.specs.Uses.{is_eval, is_use_of, is_use_of_text, is_use_named, used, used_at, used_in, used_among, crossed, crossed_at, crossed_in, crossed_among, evals, evals_at, evals_in, evals_among};
-ghost use Rattle.scope_facts.specs.Flagged.{with_flag, entry_by, entries_by, fields_by, scope_by, flagged, flagged_at, flagged_in, flagged_among};
-ghost use Rattle.scope_facts.specs.Covers.{cover_of, touched, is_caught, AreWithin};
+ghost use Rattle.scope_facts.specs.Uses.{is_use_named};
+ghost use Rattle.scope_facts.specs.Flagged.{with_flag, entry_by, entries_by, fields_by, scope_by};
+ghost use Rattle.scope_facts.specs.Covers.{cover_of, touched, is_caught};
 
 use crate::covers::{Cover, find_cover, use_name};
 use crate::names::first_name_of;
