@@ -1,4 +1,4 @@
-ghost use Rattle.std.specs.Prelude.{◌≡◌, ◌<◌, ◌≤◌, ◌+◌, ◌^◌, ◌&&◌, not, ℕ, IfOk, OnOk, true, if◌then◌else◌, Some, None};
+ghost use Rattle.std.specs.Prelude.{◌≡◌, ◌<◌, ◌≤◌, ◌+◌, ◌^◌, ℕ, IfOk, OnOk, true, None};
 ghost use Rattle.bast_schema.specs.Counts.{size, size_at, size_in};
 ghost use Rattle.bast_schema.specs.Tree.{child, more, nodes, nodes_in, nodes_at, kind_of, values_of};
 ghost use Rattle.bast_schema.specs.View.{datum, data_of};
@@ -7,7 +7,7 @@ ghost use Rattle.scope_facts.specs.Covers.{cover_of};
 ghost use Rattle.scope_facts.specs.Uses.{is_scope};
 ghost use Rattle.scope_check.specs.Covers.{is_fine};
 ghost use Rattle.scope_check.specs.Least.{is_fine_use, cover_start, least_own, least, least_at, least_in, least_among, told_step};
-ghost use Rattle.scope_check.specs.Untrue.{violation, entries_rule, untrue_scope, untrue, first, frames_inside, all_tell};
+ghost use Rattle.scope_check.specs.Untrue.{violation, entries_rule, untrue_scope, untrue, first, all_tell};
 
 use crate::covers::{enter, facts_of_scope};
 use crate::entries::judge_scope;

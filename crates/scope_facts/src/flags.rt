@@ -8,7 +8,7 @@ use crate::covers::{Cover, find_cover, use_name};
 use crate::names::first_name_of;
 use crate::roles::Part;
 use bast_base::Memory;
-use bast_schema::{Node, Value, Values, put_first, rebuilt, take_first};
+use bast_schema::{Value, Values, put_first, rebuilt, take_first};
 use std::alloc::Global;
 
 /// Sets the first flag among the values.

@@ -1,4 +1,4 @@
-use Rattle.std.proofs.Common.{◌≡◌, ap, sym, ◌∙◌, arith, subst, IfOk, ◌≤◌, ◌+◌, true}
+use Rattle.std.proofs.Common.{◌≡◌, ap, sym, ◌∙◌, arith, subst, IfOk, ◌+◌, true}
 use Rattle.bast_schema.specs.Tree.{Data, nodes_in, nodes_at, child, more}
 use Rattle.bast_schema.specs.View.{datum, data_of}
 use Rattle.bast_schema.proofs.Lists.{weight_member, data_of_drop}
