@@ -1,5 +1,5 @@
 pub mod Examples
 pub mod Keys
-pub mod Shadows
+pub mod Marks
 pub mod Walks
 pub mod Meaning

@@ -2,7 +2,7 @@
 use Rattle.std.proofs.Common.{ℕ, List, [], ◌∷◌, ◌++◌, ◌+◌, ◌≡◌, ◌<◌, refl, Bool, true, false, ◌&&◌, ◌||◌, not, nat_eq, nat_lt, if◌then◌else◌, Option, None, Some, ap, sym, ◌∙◌, arith}
 use Rattle.std.proofs.lemmas.Bool.Decides.{nat_tests}
 use Rattle.bast_schema.specs.declared.kind.Kind.{Kind}
-use Rattle.bast_schema.specs.Tree.{Tree, branch, Datum, child, absent, listed, flag, index, whole, name, no_name, choice, window, Data, none, more, nodes, nodes_at, nodes_in}
+use Rattle.bast_schema.specs.Tree.{Tree, branch, Datum, child, absent, listed, flag, index, whole, name, no_name, choice, window, Data, none, more, nodes_at}
 use Rattle.scope_facts.specs.declared.context.Ctx.{Ctx}
 use Rattle.scope_facts.specs.declared.context.FactName.{FactName}
 use Rattle.scope_facts.specs.declared.context.Rule.TheVariants.{A2}
@@ -17,11 +17,11 @@ use Rattle.scope_facts.specs.Names.{bound}
 use Rattle.scope_facts.specs.Reading.{says_eval}
 use Rattle.scope_facts.specs.Roles.{part}
 use Rattle.scope_facts.specs.Uses.{is_scope, is_name, is_entry, has_entry, first_name}
-use Rattle.scope_check.specs.declared.covers.Cover.{Cover}
+use Rattle.scope_facts.specs.declared.covers.Cover.{Cover}
 use Rattle.scope_check.specs.declared.walk.Step.{Step}
 use Rattle.scope_check.specs.declared.walk.Step.TheVariants.{Found, Next}
-use Rattle.scope_check.specs.Covers.{is_fine, is_fact, has_fact, all_caught, entered, facts_named, facts_at, facts_among, facts_in, facts_of}
-use Rattle.scope_check.specs.Least.{or_else, is_fine_name, is_fine_use, least_use, least_own, least, least_at, least_in, least_among, told_step, cover_start}
+use Rattle.scope_check.specs.Covers.{is_fine, is_fact, has_fact, all_caught, entered, facts_named, facts_at, facts_among, facts_of}
+use Rattle.scope_check.specs.Least.{or_else, is_fine_name, is_fine_use, least_use, least, least_at, least_in, least_among, told_step, cover_start}
 use Rattle.scope_check.specs.Untrue.{first, violation, untrue_use, untrue_eval, untrue_scope, untrue_from, untrue_at, untrue_in, untrue_among, fact_entries, frames_inside, all_tell, untrue}
 use Rattle.scope_check.proofs.Walks.{least_same, least_in_same, found_is, next_none}
 

@@ -1,5 +1,5 @@
 -- The walk finds the first violation.
-use Rattle.std.proofs.Common.{ℕ, List, [], ◌∷◌, ◌++◌, ◌+◌, ◌≡◌, ◌≤◌, refl, Bool, true, false, ◌&&◌, ◌||◌, not, nat_eq, nat_lt, if◌then◌else◌, Option, None, Some, ap, sym, ◌∙◌, arith, get_or, length, take, drop, ◌<◌, ◌-◌}
+use Rattle.std.proofs.Common.{ℕ, List, [], ◌∷◌, ◌+◌, ◌≡◌, ◌≤◌, refl, Bool, true, false, ◌&&◌, if◌then◌else◌, Option, None, Some, ap, sym, ◌∙◌, arith, get_or, length, take, drop, ◌<◌, ◌-◌}
 use Rattle.std.proofs.lemmas.List.{take_all}
 use Rattle.bast_schema.proofs.Lists.{data_of_drop}
 use Rattle.bast_schema.specs.View.{datum, data_of}
@@ -7,7 +7,6 @@ use Rattle.bast_schema.specs.declared.node.Value.{Value}
 use Rattle.bast_schema.specs.declared.kind.Kind.{Kind}
 use Rattle.bast_schema.specs.Counts.{size, size_at, size_in}
 use Rattle.bast_schema.specs.Tree.{Tree, branch, Datum, child, absent, listed, flag, index, whole, name, no_name, choice, window, Data, none, more, nodes, nodes_at, nodes_in, kind_of, values_of}
-use Rattle.scope_facts.specs.declared.context.FactName.{FactName}
 use Rattle.scope_facts.specs.declared.context.Violation.{Violation}
 use Rattle.scope_facts.specs.declared.context.Rule.TheVariants.{A2}
 use Rattle.scope_facts.specs.declared.roles.Part.{Part}
@@ -17,11 +16,11 @@ use Rattle.scope_facts.specs.Names.{bound}
 use Rattle.scope_facts.specs.Reading.{says_eval}
 use Rattle.scope_facts.specs.Roles.{part}
 use Rattle.scope_facts.specs.Uses.{is_scope, first_name}
-use Rattle.scope_check.specs.declared.covers.Cover.{Cover}
+use Rattle.scope_facts.specs.declared.covers.Cover.{Cover}
 use Rattle.scope_check.specs.declared.walk.Step.{Step}
 use Rattle.scope_check.specs.declared.walk.Step.TheVariants.{Found, Next}
-use Rattle.scope_check.specs.Covers.{is_fine, has_fact, all_caught, entered, facts_of}
-use Rattle.scope_check.specs.Least.{or_else, is_fine_name, is_fine_use, least_use, least_own, least, least_at, least_in, least_among, told_step}
+use Rattle.scope_check.specs.Covers.{is_fine, entered, facts_of}
+use Rattle.scope_check.specs.Least.{or_else, is_fine_name, is_fine_use, least_own, least, least_at, least_in, least_among, told_step}
 use Rattle.scope_check.specs.Untrue.{first, violation, untrue_eval, untrue_scope}
 
 -- nodes are values
@@ -146,13 +145,6 @@ in_field : (e : Option ℕ) (c : ℕ → Option Cover) (now : ℕ) (told : Bool)
     → least_in e c now told names n (more d ds) ≡ or_else (least_at e c now told n d) (least_in e c now told names (n + nodes_at d) ds)
 in_field e c now told names n d ds s = rw s refl
 
-pub field_found : (e : Option ℕ) (c : ℕ → Option Cover) (now : ℕ) (told : Bool) (names : List ℕ) (n m : ℕ) (d : Datum) (ds all : Data) (v : Violation) (st : Step) → all ≡ more d ds → is_scope d ≡ false
-    → st ≡ told_step (least_at e c now told n d) (n + nodes_at d) → st ≡ Found v → Found v ≡ told_step (least_in e c now told names n all) m
-field_found e c now told names n m d ds all v st is s at_is st_is =
-    found_first (least_at e c now told n d) (least_in e c now told names (n + nodes_at d) ds) v m (sym (found_is (least_at e c now told n d) v (n + nodes_at d) (sym st_is ∙ at_is)))
-    ∙ ap (λ o. told_step o m) (sym (in_field e c now told names n d ds s))
-    ∙ ap (λ q. told_step (least_in e c now told names n q) m) (sym is)
-
 pub field_more : (e : Option ℕ) (b c : ℕ → Option Cover) (now : ℕ) (told : Bool) (names : List ℕ) (n m : ℕ) (d : Datum) (ds all : Data) (st : Step) → all ≡ more d ds → is_scope d ≡ false
     → st ≡ told_step (least_at e c now told n d) (n + nodes_at d) → st ≡ Next m → ((x : ℕ) → b x ≡ c x)
     → told_step (least_in e b now told names m ds) (m + nodes_in ds) ≡ told_step (least_in e c now told names n all) (n + nodes_in all)
@@ -168,12 +160,6 @@ field_more e b c now told names n m d ds all st is s at_is st_is same =
 in_scope : (e : Option ℕ) (c : ℕ → Option Cover) (now : ℕ) (told : Bool) (names : List ℕ) (n : ℕ) (d : Datum) (ds : Data) → is_scope d ≡ true
     → least_in e c now told names n (more d ds) ≡ or_else (first (untrue_scope n names d ds)) (least_in e (λ x. entered now (facts_of d) x (c x)) now (told && says_eval d) names (n + nodes_at d) ds)
 in_scope e c now told names n d ds s = rw s refl
-
-pub scope_found : (e : Option ℕ) (c : ℕ → Option Cover) (now : ℕ) (told : Bool) (names : List ℕ) (n m : ℕ) (d : Datum) (ds : Data) (v : Violation) → is_scope d ≡ true
-    → Some v ≡ first (untrue_scope n names d ds) → Found v ≡ told_step (least_in e c now told names n (more d ds)) m
-scope_found e c now told names n m d ds v s is =
-    found_first (first (untrue_scope n names d ds)) (least_in e (λ x. entered now (facts_of d) x (c x)) now (told && says_eval d) names (n + nodes_at d) ds) v m is
-    ∙ ap (λ o. told_step o m) (sym (in_scope e c now told names n d ds s))
 
 pub scope_more : (e : Option ℕ) (b c : ℕ → Option Cover) (now : ℕ) (told inner : Bool) (names : List ℕ) (n m : ℕ) (d : Datum) (ds : Data) (st : Step) → is_scope d ≡ true
     → None ≡ first (untrue_scope n names d ds) → m ≡ n + nodes_at d → inner ≡ (told && says_eval d) → ((x : ℕ) → b x ≡ entered now (facts_of d) x (c x))

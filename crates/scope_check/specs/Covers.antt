@@ -1,15 +1,12 @@
--- What a walk knows of the names at a place, name by name: the innermost scope with an entry that covers the place.
-use Rattle.std.specs.Prelude.{ℕ, Bool, true, false, ◌&&◌, ◌||◌, ◌++◌, not, nat_eq, nat_lt, if◌then◌else◌, Option, None, Some, List, [], ◌∷◌, get_or}
+-- What a walk knows of the names at a place, name by name: the innermost scope with entries of the name that covers the
+-- place, captured if all its entries of the name are.
+use Rattle.std.specs.Prelude.{ℕ, Bool, true, false, ◌&&◌, ◌||◌, ◌++◌, not, nat_eq, nat_lt, if◌then◌else◌, Option, None, Some, List, [], ◌∷◌}
 use Rattle.std.specs.List.{list_any, list_all}
 use Rattle.bast_schema.specs.Tree.{branch, Datum, child, listed, Data, none, more}
 use Rattle.scope_facts.specs.Frames.{is_captured}
 use Rattle.scope_facts.specs.Uses.{first_name}
 use Rattle.scope_facts.specs.declared.context.FactName.{FactName}
-use Rattle.scope_check.specs.declared.covers.Cover.{Cover}
-use Rattle.scope_check.specs.declared.covers.Shadow.{Shadow}
-
-abbrev pub cover_of : List (Option Cover) → ℕ → Option Cover
-cover_of cs x = get_or cs x None
+use Rattle.scope_facts.specs.declared.covers.Cover.{Cover}
 
 -- whether a use inside so many functions may have this entry as its nearest declaration
 abbrev pub is_fine : ℕ → Option Cover → Bool
@@ -55,8 +52,3 @@ facts_in _ = []
 abbrev pub facts_of : Datum → List FactName
 facts_of (child (branch k ds)) = facts_in ds
 facts_of _ = []
-
--- the cover of a name once what was kept is put back, the last that was kept first
-abbrev pub restored : List Shadow → ℕ → Option Cover → Option Cover
-restored [] x o = o
-restored (a ∷ others) x o = if nat_eq a.name x then a.cover else restored others x o

@@ -12,7 +12,7 @@ use Rattle.scope_facts.specs.Names.{bound}
 use Rattle.scope_facts.specs.Reading.{says_eval}
 use Rattle.scope_facts.specs.Roles.{part}
 use Rattle.scope_facts.specs.Uses.{is_scope, first_name}
-use Rattle.scope_check.specs.declared.covers.Cover.{Cover}
+use Rattle.scope_facts.specs.declared.covers.Cover.{Cover}
 use Rattle.scope_check.specs.declared.walk.Step.{Step}
 use Rattle.scope_check.specs.declared.walk.Step.TheVariants.{Found, Next}
 use Rattle.scope_check.specs.Covers.{is_fine, entered, facts_of}

@@ -1,7 +1,7 @@
 ghost use Rattle.std.specs.Prelude.{◌≡◌, ◌≤◌, ◌^◌, ◌||◌, not, false, IfOk, OnOk};
 ghost use Rattle.bast_schema.specs.View.{datum, data_of};
 ghost use Rattle.bast_schema.specs.Counts.{size_in};
-ghost use Rattle.scope_check.specs.Entries.{entry_sort, entry_number, key_at, keys, same, is_among, first_extra, first_missing, differing, said, says_simple, flags_agree, judged_flag, judged, says_by, scope_says};
+ghost use Rattle.scope_check.specs.Entries.{entry_sort, entry_number, key_at, keys, same, is_among, first_extra, first_missing, differing, said, says_simple, flags_agree, judged_flag, says_by, scope_says};
 ghost use Rattle.scope_check.specs.declared.entries.Key.{Key};
 
 use crate::finding::Finding;

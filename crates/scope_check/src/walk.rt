@@ -1,23 +1,25 @@
-ghost use Rattle.std.specs.Prelude.{◌≡◌, ◌<◌, ◌≤◌, ◌+◌, ◌^◌, ◌&&◌, not, ℕ, IfOk, OnOk, true, if◌then◌else◌, Some, None};
+ghost use Rattle.std.specs.Prelude.{◌≡◌, ◌<◌, ◌≤◌, ◌+◌, ◌^◌, ℕ, IfOk, OnOk, true, None};
 ghost use Rattle.bast_schema.specs.Counts.{size, size_at, size_in};
 ghost use Rattle.bast_schema.specs.Tree.{child, more, nodes, nodes_in, nodes_at, kind_of, values_of};
 ghost use Rattle.bast_schema.specs.View.{datum, data_of};
 ghost use Rattle.scope_facts.specs.Roles.{part};
-ghost use Rattle.scope_facts.specs.Covers.{inside_now};
+ghost use Rattle.scope_facts.specs.Covers.{cover_of};
 ghost use Rattle.scope_facts.specs.Uses.{is_scope};
-ghost use Rattle.scope_check.specs.Covers.{cover_of, is_fine};
+ghost use Rattle.scope_check.specs.Covers.{is_fine};
 ghost use Rattle.scope_check.specs.Least.{is_fine_use, cover_start, least_own, least, least_at, least_in, least_among, told_step};
-ghost use Rattle.scope_check.specs.Untrue.{violation, entries_rule, untrue_scope, untrue, first, frames_inside, all_tell};
+ghost use Rattle.scope_check.specs.Untrue.{violation, entries_rule, untrue_scope, untrue, first, all_tell};
 
-use crate::covers::{Cover, enter, facts_of_scope, find_cover, leave};
+use crate::covers::{enter, facts_of_scope};
 use crate::entries::judge_scope;
-use crate::evals::{is_eval_call, name_of_eval, tells_eval_too};
+use crate::evals::tells_eval_too;
 use crate::finding::Finding;
 use crate::numbers::number_behind;
 use bast_base::{Memory, NameId};
 use bast_schema::{Node, Value};
 use scope_facts::{
-    Ctx, Part, Rule, ScopeFacts, Shape, Violation, first_name_of, part_of, put_bound, scope_shape,
+    Cover, Ctx, Part, Rule, ScopeFacts, Shape, Violation, find_cover, first_name_of,
+    functions_inside, is_eval_call, is_scope_value, leave, name_of_eval, part_of, put_bound,
+    scope_shape,
 };
 use std::alloc::Global;
 use string_table::StringTable;
@@ -117,27 +119,6 @@ fn scope_violation(
             let rule = rule_of_entries(scope_shape(scope.kind()));
             Ok(Some(violation_of(number, rule, name)))
         }
-    }
-}
-
-/// How many functions are around what is inside a node.
-fn functions_inside(part: Part, now: u32) -> u32
-    requires { now + 1 < 2 ^ 32 }
-    ensures { result ≡ inside_now part now }
-{
-    match part {
-        Part::Function => now + 1,
-        _ => now,
-    }
-}
-
-/// Whether the value is a scope.
-fn is_scope_value(value: &Value) -> bool
-    ensures { result ≡ is_scope (datum value.now) }
-{
-    match value {
-        Value::Node(node) => matches!(part_of(node.kind()), Part::Scope),
-        _ => false,
     }
 }
 

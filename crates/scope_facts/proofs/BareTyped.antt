@@ -92,14 +92,6 @@ allowed_eager (One j) LazyFunctionExpression f h = not_one j LazyFunctionExpress
 allowed_eager _ LazyFunctionExpression f h = cc
 allowed_eager u _ f h = h
 
-not_scope_eager : (k : Kind) → is_scope_part (part k) ≡ true → eager k ≡ k
-not_scope_eager AssertedScriptGlobalScope h = refl
-not_scope_eager AssertedVarScope h = refl
-not_scope_eager AssertedBlockScope h = refl
-not_scope_eager AssertedParameterScope h = refl
-not_scope_eager AssertedBoundNamesScope h = refl
-not_scope_eager _ h = cc
-
 empty_fit : (k : Kind) → is_scope_part (part k) ≡ true → fit (fields k) (empty_fields (shape_of k)) ≡ true
 empty_fit AssertedScriptGlobalScope h = refl
 empty_fit AssertedVarScope h = refl

@@ -38,10 +38,6 @@ once_new a xs out e =
     let f : once (a ∷ out) xs ≡ once (out ++ a ∷ []) xs = once_same xs (a ∷ out) (out ++ a ∷ []) (λ b. any_last a b out)
     in ap (λ b. out ++ (if b then once out xs else a ∷ once (a ∷ out) xs)) e ∙ ap (λ r. out ++ a ∷ r) f ∙ sym (append_assoc out (a ∷ []) (once (out ++ a ∷ []) xs))
 
--- one that is not
-pub once_old : (a : Declared) (xs out : List Declared) → list_any (same a) out ≡ true → once out (a ∷ xs) ≡ once out xs
-once_old a xs out e = ap (λ b. if b then once out xs else a ∷ once (a ∷ out) xs) e
-
 kinds_same : (j k : NameKind) → sameb the_type j k ≡ nat_eq (kind_choice j) (kind_choice k)
 kinds_same Var Var = refl
 kinds_same Var Lexical = refl

@@ -40,9 +40,6 @@ touched_twice : (u c v d : Bool) (now : ℕ) (o : Option Cover) → touched u c 
 touched_twice u c v d now None = refl
 touched_twice u c v d now (Some e) = ap (λ b. Some (record { function = e.function; captured = b })) (caught e.captured d v (nat_lt e.function now) c u)
 
-pub touches_none : (now : ℕ) (cs : List (Option Cover)) → Touches (λ x. false) (λ x. false) now cs cs
-touches_none now cs = record { all = λ x. sym (untouched now (cover_of cs x)) }
-
 pub touches_both : (v d u c : ℕ → Bool) (now : ℕ) (cs ds es : List (Option Cover)) → Touches v d now cs ds → Touches u c now ds es → Touches (λ x. v x || u x) (λ x. d x || c x) now cs es
 touches_both v d u c now cs ds es s t = record { all = λ x. t.all x ∙ ap (touched (u x) (c x) now) (s.all x) ∙ touched_twice (u x) (c x) (v x) (d x) now (cover_of cs x) }
 
@@ -69,14 +66,6 @@ within_inside Other n cs w = w
 
 not_less : (n : ℕ) → nat_lt n n ≡ false
 not_less n = grind (arith, nat_tests)
-
-within_entered : (b : Bool) (n : ℕ) (o : Option Cover) → is_within n o ≡ true → is_within n (if b then Some (record { function = n; captured = false }) else o) ≡ true
-within_entered true n o h = ap not (not_less n)
-within_entered false n o h = h
-
-pub within_enter : (n : ℕ) (ns : List ℕ) (cs ds : List (Option Cover)) → AreWithin n cs
-    → ((x : ℕ) → cover_of ds x ≡ (if has_name x ns then Some (record { function = n; captured = false }) else cover_of cs x)) → AreWithin n ds
-within_enter n ns cs ds w h = record { all = λ x. ap (is_within n) (h x) ∙ within_entered (has_name x ns) n (cover_of cs x) (w.all x) }
 
 -- a node
 

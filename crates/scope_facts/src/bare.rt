@@ -4,8 +4,7 @@ ghost use Rattle.bast_schema.specs.View.{datum, data_of};
 ghost use Rattle.scope_facts.specs.Uses.{is_scope};
 ghost use Rattle.scope_facts.specs.Bare.{eager, empty_fields, bare_scope, bare, bare_at, bare_in};
 
-use crate::filling::is_scope_value;
-use crate::roles::{Shape, scope_shape};
+use crate::roles::{Shape, is_scope_value, scope_shape};
 use bast_base::Memory;
 use bast_schema::{Kind, Node, Value, Values, rebuilt};
 use std::alloc::Global;

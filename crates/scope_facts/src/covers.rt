@@ -1,30 +1,34 @@
-ghost use Rattle.std.specs.Prelude.{◌≡◌, ◌++◌, ◌<◌, ◌≤◌, IfOk, OnOk, ℕ, Some, None, false, nat_eq, length, Option, if◌then◌else◌};
+ghost use Rattle.std.specs.Prelude.{◌≡◌, ◌<◌, ◌+◌, ◌^◌, IfOk, OnOk, ℕ, Some, false, nat_eq, length, Option, if◌then◌else◌};
 ghost use Rattle.bast_schema.specs.View.{datum, data_of};
-ghost use Rattle.scope_facts.specs.Covers.{cover_of, touched, has_name, restored, names_among, entry_names, entry_name};
+ghost use Rattle.scope_facts.specs.Covers.{cover_of, touched, has_name, restored, names_among, entry_names, entry_name, inside_now};
 ghost use Rattle.scope_facts.specs.declared.covers.Cover.{Cover};
 
 use crate::names::first_name_of;
+use crate::roles::Part;
 use bast_base::Memory;
 use bast_schema::Value;
 use std::alloc::Global;
 
-/// The innermost entry of a name that covers a place.
+/// What covers a name at a place: the innermost entry of the name, or the innermost scope with entries of it where a
+/// scope may have several.
 #[derive(Clone, Copy, Debug)]
-pub(crate) struct Cover {
-    /// How many functions are around the entry's scope.
-    function: u32,
-    pub(crate) captured: bool,
+pub struct Cover {
+    /// How many functions are around the scope.
+    pub function: u32,
+    /// Whether the entry is captured, or all entries of the name in the scope are.
+    pub captured: bool,
 }
 
 /// What covered a name before a scope had an entry of it.
 #[derive(Clone, Copy, Debug)]
-pub(crate) struct Shadow {
-    name: u32,
-    cover: Option<Cover>,
+pub struct Shadow {
+    /// The number of the name's text in the table of strings.
+    pub name: u32,
+    pub cover: Option<Cover>,
 }
 
-/// The cover of a name.
-pub(crate) fn find_cover(covers: &[Option<Cover>], name: u32) -> Option<Cover>
+/// The cover of a name, where something covers it.
+pub fn find_cover(covers: &[Option<Cover>], name: u32) -> Option<Cover>
     ensures { result ≡ cover_of covers.now name }
 {
     match covers.get(name as usize) {
@@ -44,13 +48,28 @@ fn make_room(covers: &mut Vec<Option<Cover>>, name: u32) -> Result<(), Memory>
     Ok(())
 }
 
-/// Changes the cover of a name.
-fn put_cover(covers: &mut Vec<Option<Cover>>, name: u32, cover: Option<Cover>) -> Result<(), Memory>
+/// Changes the cover of a name, and of no other.
+pub fn put_cover(
+    covers: &mut Vec<Option<Cover>>,
+    name: u32,
+    cover: Option<Cover>,
+) -> Result<(), Memory>
     ensures { OnOk result ((x : ℕ) → cover_of covers.new.items x ≡ (if nat_eq name x then cover else cover_of covers.old.items x)) }
 {
     make_room(covers, name)?;
     covers[name as usize] = cover;
     Ok(())
+}
+
+/// How many functions are around what is inside a node.
+pub fn functions_inside(part: Part, now: u32) -> u32
+    requires { now + 1 < 2 ^ 32 }
+    ensures { result ≡ inside_now part now }
+{
+    match part {
+        Part::Function => now + 1,
+        _ => now,
+    }
 }
 
 /// Captures the entry that covers a name, where it stands outside the innermost of so many functions.
@@ -94,7 +113,7 @@ pub(crate) fn enter(
 }
 
 /// Puts back what covered the names before a scope.
-pub(crate) fn leave(covers: &mut Vec<Option<Cover>>, mut shadows: Vec<Shadow>) -> Result<(), Memory>
+pub fn leave(covers: &mut Vec<Option<Cover>>, mut shadows: Vec<Shadow>) -> Result<(), Memory>
     ensures { OnOk result ((x : ℕ) → cover_of covers.new.items x ≡ restored shadows.items x (cover_of covers.old.items x)) }
 {
     while let Some(shadow) = shadows.pop() {

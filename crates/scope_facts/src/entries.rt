@@ -1,9 +1,8 @@
-ghost use Rattle.std.specs.Prelude.{◌≡◌, ◌≤◌, ◌^◌, ◌+◌, IfOk, OnOk};
+ghost use Rattle.std.specs.Prelude.{◌≡◌, ◌≤◌, ◌^◌, IfOk, OnOk};
 ghost use Rattle.std.specs.List.{list_all};
 ghost use Rattle.bast_schema.specs.View.{datum, data_of};
 ghost use Rattle.bast_schema.specs.Counts.{join, size_in};
 ghost use Rattle.bast_schema.specs.Tree.{Data, child, listed, more, none, count};
-ghost use Rattle.scope_facts.specs.Names.{once};
 ghost use Rattle.scope_facts.specs.Entries.{declared_entry, bound_entry, rest_entry, positional_entry, declared_entries, bound_entries, rest_entries, place_entry, parameter_name, item_entries, list_entries, parameter_entries, is_bare, all_bare, no_rest, list_simple, is_simple, entries, flags_by};
 
 use crate::names::{Declared, put_bound, put_bound_below, put_lexicals_in, put_tops_in};

@@ -1,26 +1,16 @@
 ghost use Rattle.std.specs.Prelude.{◌≡◌, ◌≤◌, ◌^◌, IfOk, ℕ, Bool, true};
-ghost use Rattle.std.specs.Option.{option_map};
 ghost use Rattle.bast_schema.specs.Counts.{is_whole, size};
 ghost use Rattle.bast_schema.specs.Tree.{depth};
-ghost use Rattle.scope_facts.specs.Exact.{eval_name, exact};
+ghost use Rattle.scope_facts.specs.Exact.{exact};
 ghost use Rattle.bast_schema.specs.NamesHold.{names_hold};
 
+use crate::evals::name_of_eval;
 use crate::filling::fill_node;
 use crate::flagging::flag_node;
 use bast_base::Memory;
 use bast_schema::Node;
 use std::alloc::Global;
 use string_table::StringTable;
-
-/// The name of the text `eval`, where the table has it.
-fn name_of_eval(strings: &StringTable) -> Option<u32>
-    ensures { result ≡ eval_name strings.now }
-{
-    match strings.find("eval") {
-        Some(name) => Some(name.0),
-        None => None,
-    }
-}
 
 /// The same tree with exact scopes, where its names are those of a table of strings.
 ///

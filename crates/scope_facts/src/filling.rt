@@ -6,20 +6,10 @@ ghost use Rattle.scope_facts.specs.Filled.{filled, filled_at, filled_in, filled_
 
 use crate::entries::{are_simple, make_entries, make_scope_fields};
 use crate::names::put_bound;
-use crate::roles::{Part, part_of, scope_shape};
+use crate::roles::{is_scope_value, scope_shape};
 use bast_base::Memory;
 use bast_schema::{Node, Value, Values, put_first, rebuilt, take_first};
 use std::alloc::Global;
-
-/// Whether the value is a scope.
-pub(crate) fn is_scope_value(value: &Value) -> bool
-    ensures { result ≡ is_scope (datum value.now) }
-{
-    match value {
-        Value::Node(node) => matches!(part_of(node.kind()), Part::Scope),
-        _ => false,
-    }
-}
 
 /// A scope with its entries, from the names that the values of its node bind and from what stands after it.
 fn fill_scope(alloc: Global, names: &[u32], scope: Value, after: &[Value]) -> Result<Value, Memory>

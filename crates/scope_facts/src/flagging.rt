@@ -1,29 +1,18 @@
-ghost use Rattle.std.specs.Prelude.{◌≡◌, ◌≤◌, ◌+◌, IfOk, OnOk, ℕ};
+ghost use Rattle.std.specs.Prelude.{◌≡◌, ◌≤◌, ◌+◌, IfOk, OnOk};
 ghost use Rattle.bast_schema.specs.Tree.{depth, depth_at, depth_in};
 ghost use Rattle.bast_schema.specs.View.{datum, data_of};
 ghost use Rattle.scope_facts.specs.Uses.{used, used_at, used_in, used_among, crossed, crossed_at, crossed_in, crossed_among, evals, evals_at, evals_in, evals_among};
 ghost use Rattle.scope_facts.specs.Flagged.{flagged, flagged_at, flagged_in, flagged_among};
-ghost use Rattle.scope_facts.specs.Covers.{AreWithin, Touches, inside_now};
+ghost use Rattle.scope_facts.specs.Covers.{AreWithin, Touches};
 
-use crate::covers::{Cover, enter, leave, names_of_scope};
-use crate::filling::is_scope_value;
-use crate::flags::{flag_scope, is_eval_call, use_node};
+use crate::covers::{Cover, enter, functions_inside, leave, names_of_scope};
+use crate::evals::is_eval_call;
+use crate::flags::{flag_scope, use_node};
 use crate::names::first_name_of;
-use crate::roles::{Part, part_of};
+use crate::roles::{is_scope_value, part_of};
 use bast_base::Memory;
 use bast_schema::{Node, Value, Values, put_first, rebuilt, take_first};
 use std::alloc::Global;
-
-/// How many functions are around what is inside a node.
-fn functions_inside(part: Part, now: u32) -> u32
-    requires { now ≤ 512 }
-    ensures { result ≡ inside_now part now }
-{
-    match part {
-        Part::Function => now + 1,
-        _ => now,
-    }
-}
 
 /// A node with the flags of its scopes set, and whether a direct eval is in it. The covers of its names are told of its uses.
 #[cycle(flag)]

@@ -1,15 +1,14 @@
-ghost use Rattle.std.specs.Prelude.{◌≡◌, ◌≤◌, ◌+◌, ◌^◌, IfOk, OnOk, ℕ, true, false};
-ghost use Rattle.bast_schema.specs.Tree.{depth, depth_at, depth_in};
+ghost use Rattle.std.specs.Prelude.{◌≡◌, IfOk, OnOk, ℕ, false};
 ghost use Rattle.bast_schema.specs.View.{datum, data_of};
-ghost use Rattle.scope_facts.specs.Uses.{is_eval, is_use_of, is_use_of_text, is_use_named, used, used_at, used_in, used_among, crossed, crossed_at, crossed_in, crossed_among, evals, evals_at, evals_in, evals_among};
-ghost use Rattle.scope_facts.specs.Flagged.{with_flag, entry_by, entries_by, fields_by, scope_by, flagged, flagged_at, flagged_in, flagged_among};
-ghost use Rattle.scope_facts.specs.Covers.{cover_of, touched, is_caught, AreWithin};
+ghost use Rattle.scope_facts.specs.Uses.{is_use_named};
+ghost use Rattle.scope_facts.specs.Flagged.{with_flag, entry_by, entries_by, fields_by, scope_by};
+ghost use Rattle.scope_facts.specs.Covers.{cover_of, touched, is_caught};
 
 use crate::covers::{Cover, find_cover, use_name};
 use crate::names::first_name_of;
-use crate::roles::{Part, part_of};
+use crate::roles::Part;
 use bast_base::Memory;
-use bast_schema::{Node, Value, Values, put_first, rebuilt, take_first};
+use bast_schema::{Value, Values, put_first, rebuilt, take_first};
 use std::alloc::Global;
 
 /// Sets the first flag among the values.
@@ -112,46 +111,6 @@ pub(crate) fn flag_scope(
             Ok(Value::Node(rebuilt(kind, flag_scope_fields(alloc, covers, evals, fields)?)))
         }
         other => Ok(other),
-    }
-}
-
-/// Whether a node is a use of a name.
-fn is_use_here(name: u32, part: Part, fields: &[Value]) -> bool
-    ensures { result ≡ is_use_of name part (data_of fields.now) }
-{
-    match part {
-        Part::Use => match first_name_of(fields) {
-            Some(first) => first == name,
-            None => false,
-        },
-        _ => false,
-    }
-}
-
-/// Whether a node is a use of a name, where there is such a name.
-fn is_use_of_eval(eval: Option<u32>, part: Part, fields: &[Value]) -> bool
-    ensures { result ≡ is_use_of_text eval part (data_of fields.now) }
-{
-    match eval {
-        Some(name) => is_use_here(name, part, fields),
-        None => false,
-    }
-}
-
-/// Whether a node is a direct eval.
-pub(crate) fn is_eval_call(eval: Option<u32>, part: Part, fields: &[Value]) -> bool
-    ensures { result ≡ is_eval eval part (data_of fields.now) }
-{
-    match part {
-        Part::Call => match fields {
-            [Value::Node(callee), ..] => is_use_of_eval(
-                eval,
-                part_of(callee.kind()),
-                callee.fields(),
-            ),
-            _ => false,
-        },
-        _ => false,
     }
 }
 

@@ -6,6 +6,7 @@ mod bare;
 mod context;
 mod covers;
 mod entries;
+mod evals;
 mod exact_scopes;
 mod filling;
 mod flagging;
@@ -17,7 +18,9 @@ mod roles;
 
 pub use bare::plain;
 pub use context::{Ctx, FactName, Rule, ScopeFacts, Violation};
+pub use covers::{Cover, Shadow, find_cover, functions_inside, leave, put_cover};
 pub use entries::{are_simple, make_entries};
+pub use evals::{is_eval_call, name_of_eval};
 pub use exact_scopes::annotate;
 pub use laws::{
     entries_are_captured_exactly, evals_are_told_by_all_scopes, exact_scopes_change_scopes_alone,
@@ -27,7 +30,7 @@ pub use names::{
     Declared, NameKind, bound_name, first_name_of, put_bound, put_bound_below, put_items,
     put_lexicals_in, put_tops_in, put_vars_in,
 };
-pub use roles::{Form, Part, Shape, form_of, part_of, scope_shape};
+pub use roles::{Form, Part, Shape, form_of, is_scope_value, part_of, scope_shape};
 
 #[cfg(test)]
 mod tests;

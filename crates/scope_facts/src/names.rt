@@ -1,7 +1,7 @@
-ghost use Rattle.std.specs.Prelude.{◌≡◌, IfOk, OnOk, ◌++◌, ◌∷◌, [], ℕ, map};
+ghost use Rattle.std.specs.Prelude.{◌≡◌, OnOk, ◌++◌};
 ghost use Rattle.bast_schema.specs.View.{datum, data_of};
 ghost use Rattle.scope_facts.specs.Uses.{first_name};
-ghost use Rattle.scope_facts.specs.Names.{kind_choice, with_kind, binding_name, bound_at, bound, bound_below_at, bound_below, declarators, lexical_kind, is_var_head, head_kind, vars_by, vars, vars_at, vars_in, lexicals_by, lexicals, lexicals_at, lexicals_in, tops_by, tops, tops_at, tops_among, tops_in};
+ghost use Rattle.scope_facts.specs.Names.{kind_choice, with_kind, bound_at, bound, bound_below_at, bound_below, declarators, lexical_kind, is_var_head, head_kind, vars, vars_at, vars_in, lexicals, lexicals_at, lexicals_in, tops, tops_among, tops_in};
 
 use crate::roles::{Form, form_of};
 use bast_base::Memory;

@@ -1,7 +1,9 @@
 ghost use Rattle.std.specs.Prelude.{◌≡◌};
+ghost use Rattle.bast_schema.specs.View.{datum};
 ghost use Rattle.scope_facts.specs.Roles.{form, part, shape_of};
+ghost use Rattle.scope_facts.specs.Uses.{is_scope};
 
-use bast_schema::Kind;
+use bast_schema::{Kind, Value};
 
 /// What a kind of node is for the uses of names below it.
 #[derive(Clone, Copy, Debug, PartialEq, Eq)]
@@ -106,5 +108,15 @@ pub fn scope_shape(kind: Kind) -> Shape
         Kind::AssertedParameterScope => Shape::Parameters,
         Kind::AssertedBoundNamesScope => Shape::BoundName,
         _ => Shape::Nothing,
+    }
+}
+
+/// Whether the value is a scope.
+pub fn is_scope_value(value: &Value) -> bool
+    ensures { result ≡ is_scope (datum value.now) }
+{
+    match value {
+        Value::Node(node) => matches!(part_of(node.kind()), Part::Scope),
+        _ => false,
     }
 }

@@ -1,5 +1,4 @@
-use Rattle.scope_check.proofs.Shadows.{entered_is}
-use Rattle.scope_check.specs.Covers.{cover_of}
+use Rattle.scope_check.proofs.Marks.{entered_is}
 use Rattle.scope_check.proofs.covers.enter.Goals as goal
 
 pub returns-clause-covers : goal.returns-clause-covers

@@ -1,5 +1,6 @@
 use Rattle.std.proofs.Common.{◌≡◌, ℕ, drop}
-use Rattle.scope_check.specs.Covers.{cover_of, marked}
+use Rattle.scope_facts.specs.Covers.{cover_of}
+use Rattle.scope_check.specs.Covers.{marked}
 use Rattle.scope_check.proofs.covers.mark_facts.Given as goal
 
 abbrev pub invariant-loop-fact : goal.invariant-loop-fact

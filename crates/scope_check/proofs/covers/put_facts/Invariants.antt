@@ -1,6 +1,7 @@
 use Rattle.std.proofs.Common.{◌≡◌, ℕ, Option, Some, true, take, if◌then◌else◌}
-use Rattle.scope_check.specs.Covers.{cover_of, has_fact, restored}
-use Rattle.scope_check.specs.declared.covers.Cover.{Cover}
+use Rattle.scope_facts.specs.Covers.{cover_of, restored}
+use Rattle.scope_check.specs.Covers.{has_fact}
+use Rattle.scope_facts.specs.declared.covers.Cover.{Cover}
 use Rattle.scope_check.proofs.covers.put_facts.Given as goal
 
 abbrev pub invariant-loop-fact : goal.invariant-loop-fact

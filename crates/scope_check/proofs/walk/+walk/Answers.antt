@@ -1,10 +1,11 @@
-use Rattle.std.proofs.Common.{◌≡◌, ap, sym, ◌∙◌, arith, subst, IfOk, ◌≤◌, ◌+◌, true}
+use Rattle.std.proofs.Common.{◌≡◌, ap, sym, ◌∙◌, arith, subst, IfOk, ◌+◌, true}
 use Rattle.bast_schema.specs.Tree.{Data, nodes_in, nodes_at, child, more}
 use Rattle.bast_schema.specs.View.{datum, data_of}
 use Rattle.bast_schema.proofs.Lists.{weight_member, data_of_drop}
 use Rattle.bast_schema.proofs.Sums.{size_member}
+use Rattle.scope_facts.specs.Covers.{cover_of}
 use Rattle.scope_facts.specs.Uses.{is_scope}
-use Rattle.scope_check.specs.Covers.{cover_of, entered}
+use Rattle.scope_check.specs.Covers.{entered}
 use Rattle.scope_check.specs.Least.{least_in, told_step}
 use Rattle.scope_check.proofs.Walks.{fields_are, scope_whole, scope_more, field_more, item_found, item_more, next_is}
 use Rattle.scope_check.proofs.walk.+walk.Goals as goal

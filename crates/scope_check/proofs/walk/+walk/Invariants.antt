@@ -1,7 +1,7 @@
 use Rattle.std.proofs.Common.{◌≡◌, ◌≤◌, ◌+◌, ℕ, drop}
 use Rattle.bast_schema.specs.Tree.{weight, weight_in, weight_at}
 use Rattle.bast_schema.specs.View.{datum, data_of}
-use Rattle.scope_check.specs.Covers.{cover_of}
+use Rattle.scope_facts.specs.Covers.{cover_of}
 use Rattle.scope_check.proofs.Walks.{Walked}
 use Rattle.scope_check.proofs.walk.+walk.Given as goal
 

@@ -1,6 +1,6 @@
 use Rattle.std.proofs.Common.{arith, ap, ◌∙◌, None}
+use Rattle.scope_facts.specs.Covers.{cover_of}
 use Rattle.scope_check.specs.Least.{cover_start}
-use Rattle.scope_check.specs.Covers.{cover_of}
 use Rattle.scope_check.specs.Untrue.{all_tell}
 use Rattle.scope_check.proofs.Meaning.{first_found, first_none}
 use Rattle.scope_check.proofs.Walks.{nodes_size}

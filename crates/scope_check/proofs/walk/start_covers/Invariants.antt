@@ -1,5 +1,5 @@
 use Rattle.std.proofs.Common.{◌≡◌, ℕ, None, drop}
-use Rattle.scope_check.specs.Covers.{cover_of}
+use Rattle.scope_facts.specs.Covers.{cover_of}
 use Rattle.scope_check.specs.Least.{cover_start}
 use Rattle.scope_check.proofs.walk.start_covers.Given as goal
 
