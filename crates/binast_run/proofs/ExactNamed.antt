@@ -1,6 +1,5 @@
 -- Exact scopes keep the kind of a tree, and that its names stand for texts.
-use Rattle.std.proofs.Common.{◌≡◌, ℕ, Bool, true, ◌&&◌, List, Option, refl, subst, ap, ◌∙◌, IsTrue}
-use Rattle.bast_schema.specs.Held.{Held, text_of}
+use Rattle.std.proofs.Common.{◌≡◌, ℕ, Bool, true, List, Option, refl, subst, ap, ◌∙◌, IsTrue}
 use Rattle.bast_schema.specs.NamesHold.{names_hold, names_hold_at, names_hold_in}
 use Rattle.bast_schema.specs.Tree.{Tree, branch, Datum, child, absent, listed, flag, index, whole, name, no_name, choice, window, Data, none, more, kind_of}
 use Rattle.bast_schema.specs.declared.kind.Kind.TheVariants.{Script}

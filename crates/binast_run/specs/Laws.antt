@@ -10,7 +10,7 @@ use Rattle.container.specs.InFile.{InFile}
 use Rattle.binast_run.specs.declared.command.Command.{Command}
 use Rattle.binast_run.specs.LazyKinds.{first_lazy}
 use Rattle.binast_run.specs.Reading.{first_fault, IsFileOfScript}
-use Rattle.binast_run.specs.Answer.{Answer, most_bytes}
+use Rattle.binast_run.specs.Answer.{Answer}
 use Rattle.binast_run.specs.Result.{AnswersInput}
 
 -- a file that is read as a tree without windows is in the grammar, and spells that tree

@@ -1,6 +1,5 @@
 use Rattle.std.proofs.Common.{◌≡◌, ◌-◌, ◌≤◌, length, ap, arith}
 use Rattle.bast_schema.specs.Counts.{size}
-use Rattle.bast_schema.specs.Tree.{nodes}
 use Rattle.container.specs.Layout.{outside}
 use Rattle.container.specs.Spelled.{spelled}
 use Rattle.tree_decoder.specs.Range.{held, left}

@@ -1,5 +1,3 @@
-use Rattle.std.proofs.Common.{ap, ◌∙◌}
-use Rattle.bast_schema.specs.Eager.{is_eager}
 use Rattle.binast_run.proofs.EagerKept.{exact_eager}
 use Rattle.binast_run.proofs.ExactNamed.{exact_in_grammar}
 use Rattle.binast_run.proofs.sources.encode_tree.Goals as goal
