@@ -110,7 +110,8 @@ fn gather_row(alloc: Global, row: RowId, parts: &mut Parts) -> Result<(), Fault>
 }
 
 fn puts_no_endings(row: RowId) -> bool
-    ensures { result ≡ true → recipe row ≡ no_endings }
+    ensures those { result ≡ true → recipe row ≡ no_endings }
+    ensures all { recipe row ≡ no_endings → result ≡ true }
 {
     matches!(
         row,
@@ -127,7 +128,8 @@ fn puts_no_endings(row: RowId) -> bool
 }
 
 fn is_one_symbol(row: RowId) -> bool
-    ensures { result ≡ true → recipe row ≡ one_symbol }
+    ensures those { result ≡ true → recipe row ≡ one_symbol }
+    ensures all { recipe row ≡ one_symbol → result ≡ true }
 {
     matches!(
         row,
@@ -145,7 +147,8 @@ fn is_one_symbol(row: RowId) -> bool
 }
 
 fn is_operand_with_tail(row: RowId) -> bool
-    ensures { result ≡ true → recipe row ≡ operand_with_tail }
+    ensures those { result ≡ true → recipe row ≡ operand_with_tail }
+    ensures all { recipe row ≡ operand_with_tail → result ≡ true }
 {
     matches!(
         row,
