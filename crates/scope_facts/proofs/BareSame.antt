@@ -14,11 +14,11 @@ filled_scope_same : (names : List ℕ) (d : Datum) (after : Data) → bare_scope
 filled_scope_same names (child (branch k ds)) after = refl
 filled_scope_same names _ after = refl
 
-is_filled_scope : (names : List ℕ) (d : Datum) (after : Data) → is_scope (filled_scope names d after) ≡ is_scope d
+pub is_filled_scope : (names : List ℕ) (d : Datum) (after : Data) → is_scope (filled_scope names d after) ≡ is_scope d
 is_filled_scope names (child (branch k ds)) after = refl
 is_filled_scope names _ after = refl
 
-is_filled : (d : Datum) → is_scope (filled_at d) ≡ is_scope d
+pub is_filled : (d : Datum) → is_scope (filled_at d) ≡ is_scope d
 is_filled (child (branch k ds)) = refl
 is_filled _ = refl
 
@@ -60,11 +60,11 @@ flagged_scope_same : (e : Option ℕ) (d : Datum) (after : Data) → bare_scope 
 flagged_scope_same e (child (branch k ds)) after = refl
 flagged_scope_same e _ after = refl
 
-is_flagged_scope : (e : Option ℕ) (d : Datum) (after : Data) → is_scope (flagged_scope e d after) ≡ is_scope d
+pub is_flagged_scope : (e : Option ℕ) (d : Datum) (after : Data) → is_scope (flagged_scope e d after) ≡ is_scope d
 is_flagged_scope e (child (branch k ds)) after = refl
 is_flagged_scope e _ after = refl
 
-is_flagged : (e : Option ℕ) (d : Datum) → is_scope (flagged_at e d) ≡ is_scope d
+pub is_flagged : (e : Option ℕ) (d : Datum) → is_scope (flagged_at e d) ≡ is_scope d
 is_flagged e (child (branch k ds)) = refl
 is_flagged e _ = refl
 

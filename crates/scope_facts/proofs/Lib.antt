@@ -16,3 +16,6 @@ pub mod BareSame
 pub mod Kept
 pub mod NamesKept
 pub mod WholeKept
+pub mod Clean
+pub mod NamesOfBare
+pub mod ExactNames

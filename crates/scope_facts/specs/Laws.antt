@@ -1,11 +1,12 @@
 -- What holds of exact scopes.
 use Rattle.std.specs.Prelude.{ℕ, true, ◌≡◌, List, [], Option}
-use Rattle.bast_schema.specs.Tree.{Tree, Data}
+use Rattle.bast_schema.specs.Tree.{Tree, Data, typed}
 use Rattle.scope_facts.specs.Uses.{crossed_in}
 use Rattle.scope_facts.specs.Frames.{respects}
 use Rattle.scope_facts.specs.Reading.{escapes_in, evals_told}
 use Rattle.scope_facts.specs.Exact.{exact, eval_name}
 use Rattle.scope_facts.specs.Bare.{bare}
+use Rattle.scope_facts.specs.Names.{vars, lexicals, tops}
 
 -- a scope's entry is captured exactly where some use of its name in what the scope covers finds no nearer scope with an
 -- entry of the name, and stands in a function that begins there
@@ -23,3 +24,13 @@ EvalsAreTold = (texts : List (Option (List ℕ))) (t : Tree) → evals_told (eva
 -- exact scopes change nothing but scopes
 abbrev pub BareOfExact : Type 0
 BareOfExact = (texts : List (Option (List ℕ))) (t : Tree) → bare (exact texts t) ≡ bare t
+
+-- two trees declare the same names: below them, directly in them, and as statements of a script or of a body
+pub record SameNames (t u : Tree) : Type 0 where
+  pub vars : vars t ≡ vars u
+  pub lexicals : lexicals t ≡ lexicals u
+  pub tops : tops t ≡ tops u
+
+-- what a well-typed tree declares does not depend on what its scopes say
+abbrev pub ScopesDeclareNothing : Type 0
+ScopesDeclareNothing = (texts : List (Option (List ℕ))) (t : Tree) → typed t ≡ true → SameNames (exact texts t) t

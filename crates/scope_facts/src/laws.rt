@@ -1,5 +1,5 @@
 // What holds of the definitions alone.
-ghost use Rattle.scope_facts.specs.Laws.{BareOfExact, CapturedExactly, EvalsAreTold, UsesAreCaptured};
+ghost use Rattle.scope_facts.specs.Laws.{BareOfExact, CapturedExactly, EvalsAreTold, ScopesDeclareNothing, UsesAreCaptured};
 
 /// An entry is captured exactly where some use of its name inside a function has its nearest declaration there, outside
 /// that function.
@@ -21,4 +21,9 @@ pub fn evals_are_told_by_all_scopes()
 /// The plain tree of a tree with exact scopes is the plain tree.
 pub fn exact_scopes_change_scopes_alone()
     ensures { BareOfExact }
+{}
+
+/// With exact scopes a well-typed tree declares what it declares with its own.
+pub fn scopes_declare_nothing()
+    ensures { ScopesDeclareNothing }
 {}
