@@ -3,3 +3,7 @@ pub mod Keys
 pub mod Marks
 pub mod Walks
 pub mod Meaning
+pub mod Differing
+pub mod Apart
+pub mod OneName
+pub mod ExactTrue

@@ -1,4 +1,5 @@
 pub mod Covers
 pub mod Entries
+pub mod Laws
 pub mod Least
 pub mod Untrue

@@ -5,10 +5,12 @@ mod covers;
 mod entries;
 mod evals;
 mod finding;
+mod laws;
 mod numbers;
 mod walk;
 
 pub use finding::Finding;
+pub use laws::exact_scopes_are_true;
 pub use walk::{Step, first_untrue};
 
 #[cfg(test)]

@@ -1,5 +1,5 @@
 -- Scopes in which only entries stand, as those of a well-typed tree and of an exact one.
-use Rattle.std.proofs.Common.{ℕ, List, [], ◌∷◌, ◌++◌, ◌+◌, ◌≡◌, Bool, true, false, refl, ap, sym, ◌&&◌, ◌||◌, not, if◌then◌else◌, Option, None, Some, ◌∙◌}
+use Rattle.std.proofs.Common.{ℕ, List, [], ◌∷◌, ◌+◌, ◌≡◌, Bool, true, false, refl, ◌&&◌, ◌||◌, not, if◌then◌else◌, Option, None, Some}
 use Rattle.bast_schema.specs.declared.kind.Kind.{Kind}
 use Rattle.bast_schema.specs.declared.kind.Kind.TheVariants.{Null, AssertedScriptGlobalScope, AssertedVarScope, AssertedBlockScope, AssertedParameterScope, AssertedBoundNamesScope, AssertedDeclaredName, AssertedPositionalParameterName, AssertedRestParameterName, AssertedBoundName}
 use Rattle.bast_schema.specs.declared.kind.Union.{Union}
@@ -8,7 +8,7 @@ use Rattle.bast_schema.specs.declared.kind.FieldType.{FieldType}
 use Rattle.bast_schema.specs.declared.kind.FieldType.TheVariants as field
 use Rattle.bast_schema.specs.Fields.{fields}
 use Rattle.bast_schema.specs.Unions.{allowed}
-use Rattle.bast_schema.specs.Tree.{Tree, branch, Datum, child, listed, flag, Data, none, more, typed, fits, fit, items_fit, item_type, is_none, kind_of}
+use Rattle.bast_schema.specs.Tree.{Tree, branch, Datum, child, listed, Data, none, more, typed, fits, fit, items_fit, item_type, is_none, kind_of}
 use Rattle.bast_schema.proofs.Both.{and_first, and_second}
 use Rattle.scope_facts.specs.declared.names.Declared.{Declared}
 use Rattle.scope_facts.specs.declared.roles.Form.{Form}
@@ -342,18 +342,18 @@ exact_field_clean e names d after behind false s h =
 
 -- no list of a well-typed tree has a scope as an item
 
-abbrev takes_scope : Union → Bool
+abbrev pub takes_scope : Union → Bool
 takes_scope u = allowed u AssertedScriptGlobalScope || (allowed u AssertedVarScope || (allowed u AssertedBlockScope || (allowed u AssertedParameterScope || allowed u AssertedBoundNamesScope)))
 
-abbrev is_plain_list : FieldType → Bool
+abbrev pub is_plain_list : FieldType → Bool
 is_plain_list (field.List u holes filled) = not (takes_scope u)
 is_plain_list _ = true
 
-abbrev all_plain_lists : List FieldType → Bool
+abbrev pub all_plain_lists : List FieldType → Bool
 all_plain_lists [] = true
 all_plain_lists (t ∷ ts) = is_plain_list t && all_plain_lists ts
 
-plain_lists : (k : Kind) → all_plain_lists (fields k) ≡ true
+pub plain_lists : (k : Kind) → all_plain_lists (fields k) ≡ true
 plain_lists Null = refl
 plain_lists _ = refl
 

@@ -2,7 +2,7 @@
 use Rattle.std.proofs.Common.{ℕ, List, ◌≡◌, true, ap, sym, ◌∙◌, Option}
 use Rattle.bast_schema.specs.Tree.{Tree, Data, typed}
 use Rattle.scope_facts.specs.declared.roles.Shape.{Shape}
-use Rattle.scope_facts.specs.Bare.{bare, bare_in}
+use Rattle.scope_facts.specs.Bare.{bare_in}
 use Rattle.scope_facts.specs.Entries.{entries, is_simple}
 use Rattle.scope_facts.specs.Exact.{exact, eval_name}
 use Rattle.scope_facts.specs.Filled.{filled_in}

@@ -13,7 +13,7 @@ use Rattle.scope_facts.specs.Exact.{exact, eval_name}
 use Rattle.scope_facts.specs.Reading.{says_eval, evals_told, evals_told_at, evals_told_in, evals_told_among}
 use Rattle.scope_facts.proofs.Nearest.{uses_respect}
 
-first_name_flag : (b : Bool) (ds : Data) → first_name (with_flag b ds) ≡ first_name ds
+pub first_name_flag : (b : Bool) (ds : Data) → first_name (with_flag b ds) ≡ first_name ds
 first_name_flag b none = refl
 first_name_flag b (more (name n) ds) = refl
 first_name_flag b (more (flag c) ds) = refl

@@ -1,21 +1,20 @@
 -- What a clean tree declares is what its plain tree declares.
-use Rattle.std.proofs.Common.{ℕ, List, [], ◌∷◌, ◌++◌, ◌+◌, ◌≡◌, Bool, true, false, refl, ap, sym, ◌&&◌, ◌||◌, not, if◌then◌else◌, nat_eq, Option, None, Some, ◌∙◌, option_to_list, slice_get}
+use Rattle.std.proofs.Common.{ℕ, List, [], ◌+◌, ◌≡◌, Bool, true, false, refl, ap, if◌then◌else◌, ◌∙◌, slice_get}
 use Rattle.bast_schema.specs.declared.kind.Kind.{Kind}
 use Rattle.bast_schema.specs.declared.kind.Kind.TheVariants.{LazyFunctionDeclaration, LazyMethod, LazyGetter, LazySetter, LazyFunctionExpression, AssertedScriptGlobalScope, AssertedVarScope, AssertedBlockScope, AssertedParameterScope, AssertedBoundNamesScope}
-use Rattle.bast_schema.specs.Tree.{Tree, branch, Datum, child, absent, listed, flag, index, whole, name, no_name, choice, window, Data, none, more}
+use Rattle.bast_schema.specs.Tree.{Tree, branch, Datum, child, listed, name, Data, none, more}
 use Rattle.bast_schema.proofs.Both.{and_first, and_second}
 use Rattle.scope_facts.specs.declared.names.Declared.{Declared}
-use Rattle.scope_facts.specs.declared.names.NameKind.TheVariants.{Var, Lexical, Constant}
 use Rattle.scope_facts.specs.declared.roles.Form.{Form}
-use Rattle.scope_facts.specs.declared.roles.Form.TheVariants.{Binding, VarStatement, LexicalStatement, FunctionStatement, Head, Case, Inside, Parameters, Plain}
+use Rattle.scope_facts.specs.declared.roles.Form.TheVariants.{Binding, VarStatement, LexicalStatement, FunctionStatement, Head, Parameters, Plain}
 use Rattle.scope_facts.specs.declared.roles.Shape.{Shape}
 use Rattle.scope_facts.specs.declared.roles.Shape.TheVariants as shape
 use Rattle.scope_facts.specs.Roles.{part, form, is_scope_part, shape_of}
 use Rattle.scope_facts.specs.Uses.{is_scope, first_name}
-use Rattle.scope_facts.specs.Names.{with_kind, binding_name, bound_at, bound, bound_below_at, bound_below, declarators, lexical_kind, is_var_head, head_kind, vars_by, vars, vars_at, vars_in, lexicals_by, lexicals, lexicals_at, lexicals_in, tops_by, tops, tops_at, tops_among, tops_in, once}
-use Rattle.scope_facts.specs.Entries.{declared_entries, place_entry, rest_entries, parameter_name, item_entries, list_entries, parameter_entries_by, parameter_entries_at, parameter_entries, entries, is_bare, is_binding, all_bare, is_absent, no_rest, list_simple, simple_by, is_simple_at, is_simple}
+use Rattle.scope_facts.specs.Names.{binding_name, bound_at, bound, bound_below_at, bound_below, declarators, lexical_kind, is_var_head, head_kind, vars_by, vars, vars_at, vars_in, lexicals_by, lexicals, lexicals_at, lexicals_in, tops_by, tops, tops_at, tops_among, tops_in, once}
+use Rattle.scope_facts.specs.Entries.{declared_entries, rest_entries, parameter_name, item_entries, list_entries, parameter_entries_by, parameter_entries_at, parameter_entries, entries, is_bare, is_binding, all_bare, is_absent, no_rest, list_simple, simple_by, is_simple_at, is_simple}
 use Rattle.scope_facts.specs.Bare.{eager, empty_fields, bare_scope, bare, bare_at, bare_in}
-use Rattle.scope_facts.proofs.Clean.{only_entries, clean_scope, clean, clean_at, clean_in, scope_vars, scope_lexicals, scope_bound}
+use Rattle.scope_facts.proofs.Clean.{clean_scope, clean, clean_at, clean_in, scope_vars, scope_bound}
 
 pub eager_form : (k : Kind) → form (eager k) ≡ form k
 eager_form LazyFunctionDeclaration = refl
