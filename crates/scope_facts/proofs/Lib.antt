@@ -19,3 +19,5 @@ pub mod WholeKept
 pub mod Clean
 pub mod NamesOfBare
 pub mod ExactNames
+pub mod RenamedNames
+pub mod RenamedExact

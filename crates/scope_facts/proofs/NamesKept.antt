@@ -27,7 +27,7 @@ all_append : {X : Type 0} (p : X → Bool) (xs ys : List X) → list_all p xs �
 all_append p [] ys h g = g
 all_append p (x ∷ xs) ys h g = both (p x) (list_all p (xs ++ ys)) (and_first (p x) (list_all p xs) h) (all_append p xs ys (and_second (p x) (list_all p xs) h) g)
 
-first_holds : (p : ℕ → Bool) (ds : Data) → names_hold_in p ds ≡ true → list_all p (option_to_list (first_name ds)) ≡ true
+pub first_holds : (p : ℕ → Bool) (ds : Data) → names_hold_in p ds ≡ true → list_all p (option_to_list (first_name ds)) ≡ true
 first_holds p none h = refl
 first_holds p (more (name n) ds) h = both (p n) true (and_first (p n) (names_hold_in p ds) h) refl
 first_holds p (more (child t) ds) h = first_holds p ds (and_second (names_hold p t) (names_hold_in p ds) h)

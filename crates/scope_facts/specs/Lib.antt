@@ -8,5 +8,6 @@ pub mod Frames
 pub mod Laws
 pub mod Names
 pub mod Reading
+pub mod Renamed
 pub mod Roles
 pub mod Uses
