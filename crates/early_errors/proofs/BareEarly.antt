@@ -1,5 +1,5 @@
 -- A clean tree breaks the rules that its plain tree breaks.
-use Rattle.std.proofs.Common.{ℕ, List, [], ◌∷◌, ◌++◌, ◌+◌, ◌≡◌, Bool, true, false, refl, ap, sym, ◌&&◌, if◌then◌else◌, ◌∙◌, map, flat_map, filter_map}
+use Rattle.std.proofs.Common.{ℕ, List, [], ◌∷◌, ◌++◌, ◌+◌, ◌≡◌, Bool, true, false, refl, ap, sym, if◌then◌else◌, ◌∙◌, flat_map, filter_map}
 use Rattle.std.proofs.lemmas.List.{map-append}
 use Rattle.bast_schema.specs.Tree.{Tree, branch, Datum, child, listed, Data, none, more, nodes_at, typed}
 use Rattle.bast_schema.proofs.Both.{and_first, and_second}
@@ -22,7 +22,7 @@ use Rattle.early_errors.specs.Laws.{unnumbered, BothSound}
 use Rattle.early_errors.specs.Reading.{Reading, reading_by}
 use Rattle.early_errors.specs.Rules.{says}
 use Rattle.early_errors.proofs.Firsts.{flat_map_append}
-use Rattle.early_errors.proofs.QuietScopes.{found_by, found_in_tree, found_in_value, found_in, scope_same}
+use Rattle.early_errors.proofs.QuietScopes.{found_in_tree, found_in_value, found_in, scope_same}
 use Rattle.early_errors.proofs.ReadingOfBare.{eager_role, eager_places, parts_bare, reading_bare}
 
 -- the violations without their numbers are those of the recursion
@@ -81,8 +81,10 @@ mutual
   in_bare : (s : Texts) (ps : List Place) (a : Around) (ds : Data) → clean_in ds ≡ true → found_in s ps a (bare_in ds) ≡ found_in s ps a ds
   in_bare s ps a none h = refl
   in_bare s ps a (more d ds) h =
-      rw (found_field s (placed (place_first ps) a) d (is_scope d) refl (and_first (if is_scope d then clean_scope d else clean_at d) (clean_in ds) h) (value_bare s (placed (place_first ps) a) d),
-          in_bare s (place_rest ps) a ds (and_second (if is_scope d then clean_scope d else clean_at d) (clean_in ds) h)) refl
+      rw (
+        found_field s (placed (place_first ps) a) d (is_scope d) refl (and_first (if is_scope d then clean_scope d else clean_at d) (clean_in ds) h) (value_bare s (placed (place_first ps) a) d),
+        in_bare s (place_rest ps) a ds (and_second (if is_scope d then clean_scope d else clean_at d) (clean_in ds) h),
+      ) refl
 
 clean_early : (s : Texts) (c : Ctx) (t : Tree) → clean t ≡ true → unnumbered (early s c t) ≡ unnumbered (early s c (bare t))
 clean_early s c t h = tree_unnumbered s (start c) 0 t ∙ sym (tree_bare s (start c) t h) ∙ sym (tree_unnumbered s (start c) 0 (bare t))

@@ -1,5 +1,5 @@
 -- The inside of a scope breaks no rule, and a scope breaks the same rules whatever stands inside.
-use Rattle.std.proofs.Common.{List, [], ◌∷◌, ◌++◌, ◌≡◌, true, false, refl, sym, ◌&&◌, ◌∙◌, filter_map}
+use Rattle.std.proofs.Common.{List, [], ◌++◌, ◌≡◌, true, refl, sym, ◌∙◌, filter_map}
 use Rattle.bast_schema.specs.declared.kind.Kind.{Kind}
 use Rattle.bast_schema.specs.declared.kind.Kind.TheVariants.{AssertedScriptGlobalScope, AssertedVarScope, AssertedBlockScope, AssertedParameterScope, AssertedBoundNamesScope, AssertedDeclaredName, AssertedPositionalParameterName, AssertedRestParameterName, AssertedBoundName}
 use Rattle.bast_schema.specs.Tree.{Tree, branch, Datum, child, listed, Data, none, more}
@@ -37,6 +37,7 @@ abbrev mutual
   found_in s ps a none = []
   found_in s ps a (more d ds) = found_in_value s (placed (place_first ps) a) d ++ found_in s (place_rest ps) a ds
 
+-- a plain node breaks the same rules whatever stands inside
 plain_same : (s : Texts) (a : Around) (ds es : Data) → found_by (reading_by s a Plain ds) ≡ found_by (reading_by s a Plain es)
 unfolding early_rules
 plain_same s a ds es = refl
@@ -81,6 +82,7 @@ fields_quiet s a (more (child t) ds) h = cc
 fields_quiet s a (more (listed es) ds) h = rw (entries_quiet s (placed place.Plain a) es (and_first (are_entries es) (only_entries ds) h)) (fields_quiet s a ds (and_second (are_entries es) (only_entries ds) h))
 fields_quiet s a (more _ ds) h = fields_quiet s a ds h
 
+-- the fields of a scope are plain
 scope_places : (k : Kind) → is_scope_part (part k) ≡ true → places k ≡ []
 scope_places AssertedScriptGlobalScope s = refl
 scope_places AssertedVarScope s = refl

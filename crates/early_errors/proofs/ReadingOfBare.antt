@@ -1,15 +1,15 @@
 -- What the rules read of a node is what they read of it in the plain tree.
-use Rattle.std.proofs.Common.{ℕ, List, [], ◌∷◌, ◌++◌, ◌≡◌, Bool, true, false, refl, ap, sym, ◌&&◌, ◌||◌, if◌then◌else◌, Option, None, Some, ◌∙◌}
+use Rattle.std.proofs.Common.{List, [], ◌≡◌, Bool, true, false, refl, ap, sym, if◌then◌else◌, ◌∙◌}
 use Rattle.bast_schema.specs.declared.kind.Kind.{Kind}
 use Rattle.bast_schema.specs.declared.kind.Kind.TheVariants.{LazyFunctionDeclaration, LazyMethod, LazyGetter, LazySetter, LazyFunctionExpression, AssertedScriptGlobalScope, AssertedVarScope, AssertedBlockScope, AssertedParameterScope, AssertedBoundNamesScope}
-use Rattle.bast_schema.specs.Tree.{Tree, branch, Datum, child, listed, choice, Data, none, more}
+use Rattle.bast_schema.specs.Tree.{Tree, branch, Datum, child, listed, Data, none, more}
 use Rattle.bast_schema.proofs.Both.{and_first, and_second}
 use Rattle.scope_facts.specs.declared.roles.Form.{Form}
 use Rattle.scope_facts.specs.declared.roles.Form.TheVariants.{Parameters, Plain}
 use Rattle.scope_facts.specs.declared.roles.Shape.{Shape}
 use Rattle.scope_facts.specs.declared.roles.Shape.TheVariants as shape
 use Rattle.scope_facts.specs.Roles.{part, form, is_scope_part, shape_of}
-use Rattle.scope_facts.specs.Uses.{is_scope, first_name}
+use Rattle.scope_facts.specs.Uses.{is_scope}
 use Rattle.scope_facts.specs.Names.{bound_below_at}
 use Rattle.scope_facts.specs.Bare.{eager, empty_fields, bare_scope, bare, bare_at, bare_in}
 use Rattle.scope_facts.proofs.Clean.{only_entries, clean_scope, clean_at, clean_in, scope_vars, scope_lexicals}
@@ -40,7 +40,7 @@ eager_places LazySetter = refl
 eager_places LazyFunctionExpression = refl
 eager_places _ = refl
 
--- a scope is plain for the rules, and so are its fields
+-- a scope is plain for the rules
 pub scope_role : (k : Kind) → is_scope_part (part k) ≡ true → role k ≡ roles.Plain
 scope_role AssertedScriptGlobalScope s = refl
 scope_role AssertedVarScope s = refl

@@ -22,7 +22,8 @@ pub fn scopes_break_no_rule()
     ensures { ScopesBreakNoRule }
 {}
 
-/// With its own scopes too, whatever they say.
+/// With its own scopes, whatever they say, a well-typed tree breaks the rules that it breaks with empty ones, in the same
+/// order and by the same names.
 pub fn own_scopes_break_no_rule()
     ensures { OwnScopesBreakNoRule }
 {}
