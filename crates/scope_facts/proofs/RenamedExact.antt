@@ -1,5 +1,5 @@
 -- The exact tree of a renamed tree is the renamed exact tree.
-use Rattle.std.proofs.Common.{ℕ, List, [], ◌∷◌, ◌++◌, ◌≡◌, Bool, true, false, refl, ap, sym, ◌∙◌, ◌&&◌, ◌||◌, not, if◌then◌else◌, nat_eq, map, Option, None, Some, option_to_list}
+use Rattle.std.proofs.Common.{ℕ, List, ◌≡◌, Bool, true, false, refl, ap, sym, ◌∙◌, if◌then◌else◌, map, Option, None, Some, option_to_list}
 use Rattle.std.specs.List.{list_all}
 use Rattle.std.specs.Option.{option_map}
 use Rattle.bast_schema.specs.declared.kind.Kind.{Kind}
@@ -10,14 +10,15 @@ use Rattle.scope_facts.specs.declared.roles.Part.{Part}
 use Rattle.scope_facts.specs.declared.roles.Part.TheVariants.{Scope, Use, Call, Function, Other}
 use Rattle.scope_facts.specs.declared.roles.Shape.{Shape}
 use Rattle.scope_facts.specs.declared.roles.Shape.TheVariants as shape
-use Rattle.scope_facts.specs.Roles.{part, is_scope_part, is_function, shape_of}
+use Rattle.scope_facts.specs.Roles.{part, shape_of}
 use Rattle.scope_facts.specs.Uses.{is_scope, first_name, is_name, is_entry, has_entry, declares, is_use_named, is_use_of, used, used_at, used_in, used_among, crossed, crossed_at, crossed_in, crossed_among, is_use_of_text, is_eval, evals, evals_at, evals_in, evals_among}
 use Rattle.scope_facts.specs.Names.{bound}
-use Rattle.scope_facts.specs.Entries.{entries, flags, flags_by, is_simple}
+use Rattle.scope_facts.specs.Entries.{flags_by, is_simple}
 use Rattle.scope_facts.specs.Filled.{filled_scope, filled, filled_at, filled_in, filled_among}
-use Rattle.scope_facts.specs.Flagged.{with_flag, holds_of, entry_by, entries_by, fields_by, scope_by, flagged_scope, flagged, flagged_at, flagged_in, flagged_among}
-use Rattle.scope_facts.specs.Renamed.{IsInjective, renamed, renamed_at, renamed_in}
-use Rattle.scope_facts.proofs.NamesKept.{first_holds}
+use Rattle.scope_facts.specs.Flagged.{with_flag, holds_of, entry_by, entries_by, fields_by, flagged_scope, flagged, flagged_at, flagged_in, flagged_among}
+use Rattle.scope_facts.specs.Exact.{exact, eval_name}
+use Rattle.scope_facts.specs.Renamed.{IsInjective, KeepsEval, is_eval_name, renamed, renamed_at, renamed_in}
+use Rattle.scope_facts.proofs.NamesKept.{first_holds, filled_names}
 use Rattle.scope_facts.proofs.RenamedNames.{first_name_renamed, bound_renamed, entries_renamed, is_simple_renamed}
 
 pub is_scope_renamed : (r : ℕ → ℕ) (d : Datum) → is_scope (renamed_at r d) ≡ is_scope d
@@ -119,14 +120,6 @@ mutual
 
 -- direct evals, where f is the name of the text eval after the renaming, and e before
 
-abbrev pub is_eval_name : Option ℕ → ℕ → Bool
-is_eval_name None n = false
-is_eval_name (Some e) n = nat_eq n e
-
--- the name of the text eval stays that, of names with the property p
-abbrev pub KeepsEval : (ℕ → ℕ) → (ℕ → Bool) → Option ℕ → Option ℕ → Type 0
-KeepsEval r p e f = (n : ℕ) → p n ≡ true → is_eval_name f (r n) ≡ is_eval_name e n
-
 abbrev has_eval_name : Option ℕ → Option ℕ → Bool
 has_eval_name e None = false
 has_eval_name e (Some n) = is_eval_name e n
@@ -227,10 +220,18 @@ mutual
 
   pub flagged_in_renamed : (r : ℕ → ℕ) → IsInjective r → (p : ℕ → Bool) (e f : Option ℕ) → KeepsEval r p e f → (ds : Data) → names_hold_in p ds ≡ true → flagged_in f (renamed_in r ds) ≡ renamed_in r (flagged_in e ds)
   flagged_in_renamed r i p e f h none a = refl
-  flagged_in_renamed r i p e f h (more d ds) a = rw (is_scope_renamed r d, flagged_scope_renamed r i p e f h d ds (and_second (names_hold_at p d) (names_hold_in p ds) a),
-        flagged_at_renamed r i p e f h d (and_first (names_hold_at p d) (names_hold_in p ds) a), flagged_in_renamed r i p e f h ds (and_second (names_hold_at p d) (names_hold_in p ds) a))
+  flagged_in_renamed r i p e f h (more d ds) a = rw (
+    is_scope_renamed r d,
+    flagged_scope_renamed r i p e f h d ds (and_second (names_hold_at p d) (names_hold_in p ds) a),
+    flagged_at_renamed r i p e f h d (and_first (names_hold_at p d) (names_hold_in p ds) a),
+    flagged_in_renamed r i p e f h ds (and_second (names_hold_at p d) (names_hold_in p ds) a),
+  )
       (ap (λ x. more x (renamed_in r (flagged_in e ds))) (if_at r (is_scope d) (flagged_scope e d ds) (flagged_at e d)))
 
   pub flagged_among_renamed : (r : ℕ → ℕ) → IsInjective r → (p : ℕ → Bool) (e f : Option ℕ) → KeepsEval r p e f → (ds : Data) → names_hold_in p ds ≡ true → flagged_among f (renamed_in r ds) ≡ renamed_in r (flagged_among e ds)
   flagged_among_renamed r i p e f h none a = refl
   flagged_among_renamed r i p e f h (more d ds) a = rw (flagged_at_renamed r i p e f h d (and_first (names_hold_at p d) (names_hold_in p ds) a), flagged_among_renamed r i p e f h ds (and_second (names_hold_at p d) (names_hold_in p ds) a)) refl
+
+pub exact_renamed : (r : ℕ → ℕ) → IsInjective r → (p : ℕ → Bool) (texts strings : List (Option (List ℕ))) → KeepsEval r p (eval_name texts) (eval_name strings) → (t : Tree) → names_hold p t ≡ true
+    → exact strings (renamed r t) ≡ renamed r (exact texts t)
+exact_renamed r i p texts strings h t a = ap (flagged (eval_name strings)) (filled_renamed r i t) ∙ flagged_renamed r i p (eval_name texts) (eval_name strings) h (filled t) (filled_names p t a)

@@ -1,10 +1,9 @@
 -- What a renamed tree declares are the renamed names that the tree declares.
-use Rattle.std.proofs.Common.{ℕ, List, [], ◌∷◌, ◌++◌, ◌+◌, ◌≡◌, Bool, true, false, refl, ap, sym, ◌∙◌, ◌&&◌, ◌||◌, if◌then◌else◌, nat_eq, map, Option, None, Some, option_to_list, slice_get}
+use Rattle.std.proofs.Common.{ℕ, List, [], ◌∷◌, ◌+◌, ◌≡◌, Bool, true, false, refl, sym, if◌then◌else◌, map, Option, None, Some, option_to_list, slice_get}
 use Rattle.std.proofs.lemmas.List.{map-append}
 use Rattle.std.specs.List.{list_any}
 use Rattle.std.specs.Option.{option_map}
-use Rattle.bast_schema.specs.declared.kind.Kind.{Kind}
-use Rattle.bast_schema.specs.Tree.{Tree, branch, Datum, child, absent, listed, flag, index, whole, name, no_name, choice, window, Data, none, more}
+use Rattle.bast_schema.specs.Tree.{Tree, branch, Datum, child, absent, listed, name, choice, Data, none, more}
 use Rattle.scope_facts.specs.declared.names.Declared.{Declared}
 use Rattle.scope_facts.specs.declared.names.NameKind.{NameKind}
 use Rattle.scope_facts.specs.declared.names.NameKind.TheVariants.{Var, Lexical}
@@ -14,7 +13,7 @@ use Rattle.scope_facts.specs.declared.roles.Shape.{Shape}
 use Rattle.scope_facts.specs.declared.roles.Shape.TheVariants as shape
 use Rattle.scope_facts.specs.Roles.{form}
 use Rattle.scope_facts.specs.Uses.{first_name}
-use Rattle.scope_facts.specs.Names.{kind_choice, with_kind, binding_name, bound_at, bound, bound_below_at, bound_below, declarators, lexical_kind, is_var_head, head_kind, vars_by, vars, vars_at, vars_in, lexicals_by, lexicals, lexicals_at, lexicals_in, tops_by, tops, tops_at, tops_among, tops_in, same, once}
+use Rattle.scope_facts.specs.Names.{with_kind, binding_name, bound_at, bound, bound_below_at, bound_below, declarators, lexical_kind, is_var_head, head_kind, vars_by, vars, vars_at, vars_in, lexicals_by, lexicals, lexicals_at, lexicals_in, tops_by, tops_at, tops_among, tops_in, same, once}
 use Rattle.scope_facts.specs.Entries.{declared_entries, bound_entries, rest_entries, place_entry, parameter_name, item_entries, list_entries, parameter_entries_by, parameter_entries_at, parameter_entries, entries, is_bare, all_bare, is_absent, no_rest, list_simple, simple_by, is_simple_at, is_simple}
 use Rattle.scope_facts.specs.Renamed.{IsInjective, renamed, renamed_at, renamed_in}
 

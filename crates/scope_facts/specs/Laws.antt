@@ -1,5 +1,6 @@
 -- What holds of exact scopes.
-use Rattle.std.specs.Prelude.{ℕ, true, ◌≡◌, List, [], Option}
+use Rattle.std.specs.Prelude.{ℕ, Bool, true, ◌≡◌, List, [], Option}
+use Rattle.bast_schema.specs.NamesHold.{names_hold}
 use Rattle.bast_schema.specs.Tree.{Tree, Data, typed}
 use Rattle.scope_facts.specs.Uses.{crossed_in}
 use Rattle.scope_facts.specs.Frames.{respects}
@@ -7,6 +8,7 @@ use Rattle.scope_facts.specs.Reading.{escapes_in, evals_told}
 use Rattle.scope_facts.specs.Exact.{exact, eval_name}
 use Rattle.scope_facts.specs.Bare.{bare}
 use Rattle.scope_facts.specs.Names.{vars, lexicals, tops}
+use Rattle.scope_facts.specs.Renamed.{IsInjective, KeepsEval, renamed}
 
 -- a scope's entry is captured exactly where some use of its name in what the scope covers finds no nearer scope with an
 -- entry of the name, and stands in a function that begins there
@@ -34,3 +36,9 @@ pub record SameNames (t u : Tree) : Type 0 where
 -- what a well-typed tree declares does not depend on what its scopes say
 abbrev pub ScopesDeclareNothing : Type 0
 ScopesDeclareNothing = (texts : List (Option (List ℕ))) (t : Tree) → typed t ≡ true → SameNames (exact texts t) t
+
+-- the numbers of names mean nothing: a tree with other numbers for its names has the exact tree with these numbers
+abbrev pub NumbersMeanNothing : Type 0
+NumbersMeanNothing =
+    (r : ℕ → ℕ) → IsInjective r → (p : ℕ → Bool) (texts strings : List (Option (List ℕ))) → KeepsEval r p (eval_name texts) (eval_name strings) → (t : Tree) → names_hold p t ≡ true
+    → exact strings (renamed r t) ≡ renamed r (exact texts t)

@@ -1,5 +1,5 @@
 // What holds of the definitions alone.
-ghost use Rattle.scope_facts.specs.Laws.{BareOfExact, CapturedExactly, EvalsAreTold, ScopesDeclareNothing, UsesAreCaptured};
+ghost use Rattle.scope_facts.specs.Laws.{BareOfExact, CapturedExactly, EvalsAreTold, NumbersMeanNothing, ScopesDeclareNothing, UsesAreCaptured};
 
 /// An entry is captured exactly where some use of its name inside a function has its nearest declaration there, outside
 /// that function.
@@ -26,4 +26,9 @@ pub fn exact_scopes_change_scopes_alone()
 /// With exact scopes a well-typed tree declares what it declares with its own.
 pub fn scopes_declare_nothing()
     ensures { ScopesDeclareNothing }
+{}
+
+/// A tree with other numbers for its names has the exact tree with these numbers.
+pub fn numbers_of_names_mean_nothing()
+    ensures { NumbersMeanNothing }
 {}

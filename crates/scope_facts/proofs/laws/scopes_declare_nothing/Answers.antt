@@ -1,4 +1,3 @@
-use Rattle.scope_facts.proofs.RenamedExact.{flagged_renamed}
 use Rattle.scope_facts.proofs.ExactNames.{scopes_declare_nothing}
 use Rattle.scope_facts.proofs.laws.scopes_declare_nothing.Goals as goal
 
