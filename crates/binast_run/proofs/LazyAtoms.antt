@@ -36,7 +36,7 @@ abbrev eager_atom : Atom → Bool
 eager_atom (atom.kind k) = is_eager_kind k
 eager_atom _ = true
 
-joined : {X : Type 0} (p : X → Bool) (xs ys : List X) → list_all p xs ≡ true → list_all p ys ≡ true → list_all p (xs ++ ys) ≡ true
+pub joined : {X : Type 0} (p : X → Bool) (xs ys : List X) → list_all p xs ≡ true → list_all p ys ≡ true → list_all p (xs ++ ys) ≡ true
 joined p xs ys a b = list_all-append p xs ys ∙ both (list_all p xs) (list_all p ys) a b
 
 front : {X : Type 0} (p : X → Bool) (xs ys : List X) → list_all p (xs ++ ys) ≡ true → list_all p xs ≡ true
@@ -139,7 +139,7 @@ mutual
   eager_data none all = refl
   eager_data (more d ds) all = both (is_eager_at d) (are_eager ds) (eager_value d (front is_eager_kind (kinds_at d) (kinds_in ds) all)) (eager_data ds (behind is_eager_kind (kinds_at d) (kinds_in ds) all))
 
-none_other : (n : ℕ) (ks : List Kind) → list_all is_eager_kind ks ≡ true → position_from (λ k. not (is_eager_kind k)) n ks ≡ None
+pub none_other : (n : ℕ) (ks : List Kind) → list_all is_eager_kind ks ≡ true → position_from (λ k. not (is_eager_kind k)) n ks ≡ None
 none_other n [] all = refl
 none_other n (k ∷ ks) all =
     rw (and_first (is_eager_kind k) (list_all is_eager_kind ks) all) (none_other (n + 1) ks (and_second (is_eager_kind k) (list_all is_eager_kind ks) all))

@@ -13,3 +13,7 @@ pub mod Outputs
 pub mod ReadFile
 pub mod SizeSpelled
 pub mod SourceAnswers
+pub mod Matching
+pub mod RenamedSpelled
+pub mod SourceFacts
+pub mod Encoded

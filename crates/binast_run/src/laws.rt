@@ -1,5 +1,5 @@
 // What holds of the definitions alone.
-ghost use Rattle.binast_run.specs.Laws.{FilesHaveOneTree, FilesInGrammarHaveNoFault, FilesWithoutLazyKindsAreReadSo, FilesAreReadAsOneTree, FilesThatAreReadAreInGrammar, InputsHaveOneAnswer};
+ghost use Rattle.binast_run.specs.Laws.{EncodedFilesAreAccepted, EncodedFilesHoldTheirTree, FilesHaveOneTree, FilesInGrammarHaveNoFault, FilesWithoutLazyKindsAreReadSo, FilesAreReadAsOneTree, FilesThatAreReadAreInGrammar, InputsHaveOneAnswer};
 
 /// A file that is read as a tree without windows is in the grammar of files, and spells that tree.
 pub fn files_that_are_read_are_in_grammar()
@@ -29,4 +29,14 @@ pub fn files_are_read_as_one_tree()
 /// An input has one answer of each command.
 pub fn inputs_have_one_answer()
     ensures { InputsHaveOneAnswer }
+{}
+
+/// What a source is encoded to is read as its tree with exact scopes.
+pub fn encoded_files_hold_their_tree()
+    ensures { EncodedFilesHoldTheirTree }
+{}
+
+/// What a source is encoded to is accepted: it breaks no early error, and its scopes say nothing untrue.
+pub fn encoded_files_are_accepted()
+    ensures { EncodedFilesAreAccepted }
 {}

@@ -28,7 +28,7 @@ text_there text entries t (kinds.Number n) o e stands = stands_there entries _ o
 text_there text entries t kinds.Text o e stands = stands_there entries _ o stands
 text_there text entries t (kinds.Template p) o e stands = stands_there entries _ o stands
 
-leaves_tell : (text : List ℕ) (entries : List (Option (List ℕ))) (ts : List Token) (ls : List Leaf) → AreLeaves text entries ts ls → LeavesTell ts ls
+pub leaves_tell : (text : List ℕ) (entries : List (Option (List ℕ))) (ts : List Token) (ls : List Leaf) → AreLeaves text entries ts ls → LeavesTell ts ls
 leaves_tell text entries [] [] are = tt
 leaves_tell text entries [] (l ∷ ls) are = are
 leaves_tell text entries (t ∷ ts) [] are = are

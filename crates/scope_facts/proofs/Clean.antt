@@ -389,9 +389,14 @@ item_allowed : (u : Union) (holes : Bool) (t : Tree) → fits (item_type u holes
 item_allowed u true t f = and_first (allowed u (kind_of t)) (typed t) f
 item_allowed u false t f = and_first (allowed u (kind_of t)) (typed t) f
 
-item_no_scope : (u : Union) (holes : Bool) (d : Datum) → not (takes_scope u) ≡ true → fits (item_type u holes) d ≡ true → is_scope d ≡ false
+pub item_no_scope : (u : Union) (holes : Bool) (d : Datum) → not (takes_scope u) ≡ true → fits (item_type u holes) d ≡ true → is_scope d ≡ false
 item_no_scope u holes (child (branch k ds)) p f = no_scope_kind u k p (item_allowed u holes (branch k ds) f)
 item_no_scope u holes _ p f = refl
+
+-- an item is no list
+pub item_plain : (u : Union) (holes : Bool) → is_plain_list (item_type u holes) ≡ true
+item_plain u true = refl
+item_plain u false = refl
 
 exact_item_clean : (e : Option ℕ) (d : Datum) → is_scope d ≡ false → clean_at (flagged_at e (filled_at d)) ≡ true → (if is_scope (flagged_at e (filled_at d)) then clean_scope (flagged_at e (filled_at d)) else clean_at (flagged_at e (filled_at d))) ≡ true
 exact_item_clean e d s h = rw (is_flagged e (filled_at d), is_filled d, s) h

@@ -21,3 +21,5 @@ pub mod NamesOfBare
 pub mod ExactNames
 pub mod RenamedNames
 pub mod RenamedExact
+pub mod ExactOfBare
+pub mod RenamedTyped

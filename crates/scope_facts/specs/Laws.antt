@@ -1,5 +1,6 @@
 -- What holds of exact scopes.
 use Rattle.std.specs.Prelude.{ℕ, Bool, true, ◌≡◌, List, [], Option}
+use Rattle.bast_schema.specs.Eager.{is_eager}
 use Rattle.bast_schema.specs.NamesHold.{names_hold}
 use Rattle.bast_schema.specs.Tree.{Tree, Data, typed}
 use Rattle.scope_facts.specs.Uses.{crossed_in}
@@ -42,3 +43,7 @@ abbrev pub NumbersMeanNothing : Type 0
 NumbersMeanNothing =
     (r : ℕ → ℕ) → IsInjective r → (p : ℕ → Bool) (texts strings : List (Option (List ℕ))) → KeepsEval r p (eval_name texts) (eval_name strings) → (t : Tree) → names_hold p t ≡ true
     → exact strings (renamed r t) ≡ renamed r (exact texts t)
+
+-- the exact scopes of a well-typed tree without lazy functions don't depend on the scopes that it has
+abbrev pub ExactOfBare : Type 0
+ExactOfBare = (texts : List (Option (List ℕ))) (t : Tree) → typed t ≡ true → is_eager t ≡ true → exact texts (bare t) ≡ exact texts t

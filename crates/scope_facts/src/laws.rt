@@ -1,5 +1,5 @@
 // What holds of the definitions alone.
-ghost use Rattle.scope_facts.specs.Laws.{BareOfExact, CapturedExactly, EvalsAreTold, NumbersMeanNothing, ScopesDeclareNothing, UsesAreCaptured};
+ghost use Rattle.scope_facts.specs.Laws.{BareOfExact, CapturedExactly, EvalsAreTold, ExactOfBare, NumbersMeanNothing, ScopesDeclareNothing, UsesAreCaptured};
 
 /// An entry is captured exactly where some use of its name inside a function has its nearest declaration there, outside
 /// that function.
@@ -31,4 +31,9 @@ pub fn scopes_declare_nothing()
 /// A tree with other numbers for its names has the exact tree with these numbers.
 pub fn numbers_of_names_mean_nothing()
     ensures { NumbersMeanNothing }
+{}
+
+/// The exact scopes of a well-typed tree without lazy functions don't depend on the scopes that it has.
+pub fn exact_scopes_depend_on_no_scopes()
+    ensures { ExactOfBare }
 {}

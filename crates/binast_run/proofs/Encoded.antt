@@ -1,0 +1,295 @@
+-- What a source is encoded to is accepted, and is read as the tree of the source with exact scopes.
+use Rattle.std.proofs.Common.{◌≡◌, ℕ, zero, suc, ◌<◌, ◌≤◌, ◌+◌, ◌&&◌, not, Bool, true, false, List, [], ◌∷◌, ◌++◌, map, length, nat_le, get_or, slice_get, Option, Some, None, Ok, refl, subst, sym, ap, ◌∙◌, if◌then◌else◌, arith}
+use Rattle.std.proofs.lemmas.Bool.Decides.{nat_tests}
+use Rattle.std.specs.List.{All, list_all}
+use Rattle.std.specs.Prelude.{slice_range}
+use Rattle.bast_base.specs.declared.errors.FormatFault.{FormatFault}
+use Rattle.bast_schema.specs.declared.kind.Kind.{Kind}
+use Rattle.bast_schema.specs.declared.kind.Kind.TheVariants.{Script}
+use Rattle.bast_schema.specs.Counts.{is_whole}
+use Rattle.bast_schema.specs.Eager.{is_eager, is_eager_at, are_eager}
+use Rattle.bast_schema.specs.Fields.{has_lazy}
+use Rattle.bast_schema.specs.Held.{Held, text_of}
+use Rattle.bast_schema.specs.NamesHold.{names_hold, names_hold_at, names_hold_in}
+use Rattle.bast_schema.specs.Tree.{Tree, branch, Datum, child, listed, Data, none, more, typed, kind_of, depth}
+use Rattle.bast_schema.proofs.Both.{and_first, and_second}
+use Rattle.container.specs.Atoms.{Atom, atoms}
+use Rattle.container.specs.InFile.{InFile, has_atom, is_unnested}
+use Rattle.container.specs.IsContainer.{IsFileOf, tables}
+use Rattle.container.specs.Named.{named}
+use Rattle.container.specs.Spelled.{spelled}
+use Rattle.container.specs.Tables.{Tables}
+use Rattle.container.specs.declared.layout.Layout.{Layout}
+use Rattle.container.proofs.ReadBack.{one_reading}
+use Rattle.early_errors.specs.Early.{early, first}
+use Rattle.early_errors.specs.Laws.{unnumbered, KeepsTexts, renamed_violation}
+use Rattle.early_errors.specs.Strict.{text_among}
+use Rattle.early_errors.proofs.BareEarly.{own_scopes_break_no_rule, early_of_exact}
+use Rattle.early_errors.proofs.RenamedEarly.{numbers_of_names_break_no_rule}
+use Rattle.scope_check.specs.Untrue.{untrue}
+use Rattle.scope_check.proofs.ExactTrue.{exact_is_true}
+use Rattle.scope_facts.specs.declared.context.Violation.{Violation}
+use Rattle.scope_facts.specs.Bare.{bare, bare_at, bare_in, bare_scope, empty_fields}
+use Rattle.scope_facts.specs.Exact.{exact, eval_name}
+use Rattle.scope_facts.specs.Renamed.{IsInjective, renamed}
+use Rattle.scope_facts.specs.Roles.{shape_of}
+use Rattle.scope_facts.specs.Uses.{is_scope}
+use Rattle.scope_facts.specs.declared.roles.Shape.{Shape}
+use Rattle.scope_facts.specs.declared.roles.Shape.TheVariants as shape
+use Rattle.scope_facts.proofs.BareSame.{bare_of_exact}
+use Rattle.scope_facts.proofs.BareTyped.{bare_typed}
+use Rattle.scope_facts.proofs.ExactOfBare.{exact_of_bare}
+use Rattle.scope_facts.proofs.RenamedExact.{exact_renamed}
+use Rattle.scope_facts.proofs.RenamedTyped.{kind_renamed, typed_renamed}
+use Rattle.tree_decoder.specs.Found.{is_text}
+use Rattle.tree_decoder.specs.Outcome.{Outcome}
+use Rattle.tree_decoder.specs.Outer.{tree_range}
+use Rattle.tree_decoder.specs.Range.{held, left}
+use Rattle.tree_decoder.specs.Script.{IsScript, script_outcome}
+use Rattle.tree_decoder.specs.Windows.{windows}
+use Rattle.tree_decoder.proofs.OneScript.{one_script}
+use Rattle.tree_encoder.specs.File.{texts_held}
+use Rattle.binast_run.specs.Answer.{Answer, output, refusal, most_bytes}
+use Rattle.binast_run.specs.Judging.{first_violation, earlier}
+use Rattle.binast_run.specs.LazyKinds.{is_eager_kind, first_lazy, kinds_of, kinds_at, kinds_in}
+use Rattle.binast_run.specs.Laws.{IsExactTreeOf, IsOutputOfTree}
+use Rattle.binast_run.specs.Lines.{large_file_line}
+use Rattle.binast_run.specs.Reading.{first_fault, IsFileOfScript}
+use Rattle.binast_run.specs.Result.{AnswersFile, faulty, read, judged, unless_lazy, unless_untrue}
+use Rattle.binast_run.specs.SourceLines.{source_line, violation_text}
+use Rattle.binast_run.specs.Sources.{AnswersSource, IsSpelled, no_text, no_tree, has_tree, script, source_file, file_answer, early_answer, tree_answer}
+use Rattle.binast_run.proofs.EagerKept.{exact_eager}
+use Rattle.binast_run.proofs.EagerWhole.{eager_is_whole}
+use Rattle.binast_run.proofs.ExactNamed.{exact_kind}
+use Rattle.binast_run.proofs.InGrammar.{in_grammar-accepted}
+use Rattle.binast_run.proofs.LazyAtoms.{eager_read, joined, none_other}
+use Rattle.binast_run.proofs.Matching.{matched, matched_apart, is_matched_text, matched_texts, matched_there, matched_eval}
+use Rattle.binast_run.proofs.NamedTrees.{both}
+use Rattle.binast_run.proofs.OneTree.{file_of}
+use Rattle.binast_run.proofs.RenamedSpelled.{SameTexts, spelled_renamed, atoms_renamed, stands_renamed, eager_folded, whole_windows, whole_renamed, depth_renamed, matched_tree}
+use Rattle.binast_run.proofs.SourceFacts.{SourceFacts, source_facts}
+use Rattle.js_parser.specs.Source.{IsSource}
+
+-- the answer to a source that is a file
+
+first_none : {A : Type 0} (xs : List A) → first xs ≡ None → xs ≡ []
+first_none [] e = refl
+first_none (x ∷ xs) e = absurd cc
+
+record FileOf (texts : List (Option (List ℕ))) (t : Tree) (bytes : List ℕ) : Type 0 where
+  early : early texts script t ≡ []
+  bytes_are : bytes ≡ source_file texts t
+  small : nat_le (length bytes) most_bytes ≡ true
+
+refused : {A : Type 0} (line bytes : List ℕ) → refusal line ≡ output bytes → A
+refused line bytes e = let one : 1 ≡ 0 = ap (λ (a : Answer). a.status) e in absurd cc
+
+file_bytes : (b : Bool) (made bytes : List ℕ) → nat_le (length made) most_bytes ≡ b → (if b then output made else refusal large_file_line) ≡ output bytes → (bytes ≡ made) × (nat_le (length bytes) most_bytes ≡ true)
+file_bytes true made bytes s e = let same : bytes ≡ made = sym (ap (λ (a : Answer). a.text) e) in (same, ap (λ (b : List ℕ). nat_le (length b) most_bytes) same ∙ s)
+file_bytes false made bytes s e = refused large_file_line bytes e
+
+file_in : (texts : List (Option (List ℕ))) (t : Tree) (o : Option Violation) (bytes : List ℕ) → first (early texts script t) ≡ o → early_answer texts t o ≡ output bytes → FileOf texts t bytes
+file_in texts t (Some v) bytes f e = refused (source_line (violation_text texts v)) bytes e
+file_in texts t None bytes f e =
+    let b = file_bytes (nat_le (length (source_file texts t)) most_bytes) (source_file texts t) bytes refl e
+    in record { early = first_none (early texts script t) f; bytes_are = b.0; small = b.1 }
+
+record Encoded (input bytes : List ℕ) : Type 0 where
+  texts : List (Option (List ℕ))
+  tree : Tree
+  source : IsSource input [] texts (Ok tree)
+  file : FileOf texts tree bytes
+  spelled : InFile bytes (texts_held texts) (exact texts tree)
+
+encoded : (input bytes : List ℕ) (a : Answer) → AnswersSource input a → a ≡ output bytes → Encoded input bytes
+encoded input bytes _ (no_text p) e = refused _ bytes e
+encoded input bytes _ (no_tree f texts is no_memory p) e = refused _ bytes e
+encoded input bytes _ (has_tree texts t is p s) e =
+    let file = file_in texts t (first (early texts script t)) bytes refl e
+    in record {
+      texts = texts;
+      tree = t;
+      source = p;
+      file = file;
+      spelled = subst (λ (b : List ℕ). InFile b (texts_held texts) (exact texts t)) (sym file.bytes_are) (s (ap (λ (a : Answer). a.status) e));
+    }
+
+-- a tree without lazy kinds has no first one
+
+mutual
+  eager_kinds : (t : Tree) → is_eager t ≡ true → list_all is_eager_kind (kinds_of t) ≡ true
+  eager_kinds (branch k ds) e = both (is_eager_kind k) (list_all is_eager_kind (kinds_in ds)) (and_first (not (has_lazy k)) (are_eager ds) e) (eager_kinds_in ds (and_second (not (has_lazy k)) (are_eager ds) e))
+
+  eager_kinds_at : (d : Datum) → is_eager_at d ≡ true → list_all is_eager_kind (kinds_at d) ≡ true
+  eager_kinds_at (child t) e = eager_kinds t e
+  eager_kinds_at (listed ds) e = eager_kinds_in ds e
+  eager_kinds_at _ e = refl
+
+  eager_kinds_in : (ds : Data) → are_eager ds ≡ true → list_all is_eager_kind (kinds_in ds) ≡ true
+  eager_kinds_in none e = refl
+  eager_kinds_in (more d ds) e = joined is_eager_kind (kinds_at d) (kinds_in ds) (eager_kinds_at d (and_first (is_eager_at d) (are_eager ds) e)) (eager_kinds_in ds (and_second (is_eager_at d) (are_eager ds) e))
+
+-- the plain tree has fewer names
+
+names_of_empty : (p : ℕ → Bool) (s : Shape) → names_hold_in p (empty_fields s) ≡ true
+names_of_empty p shape.Parameters = refl
+names_of_empty p _ = refl
+
+scope_names : (p : ℕ → Bool) (d : Datum) → names_hold_at p d ≡ true → names_hold_at p (bare_scope d) ≡ true
+scope_names p (child (branch k ds)) a = names_of_empty p (shape_of k)
+scope_names p _ a = a
+
+field_names : (p : ℕ → Bool) (d : Datum) (b : Bool) → names_hold_at p d ≡ true → names_hold_at p (bare_at d) ≡ true → names_hold_at p (if b then bare_scope d else bare_at d) ≡ true
+field_names p d true a h = scope_names p d a
+field_names p d false a h = h
+
+mutual
+  names_of_bare : (p : ℕ → Bool) (t : Tree) → names_hold p t ≡ true → names_hold p (bare t) ≡ true
+  names_of_bare p (branch k ds) a = names_of_bare_in p ds a
+
+  names_of_bare_at : (p : ℕ → Bool) (d : Datum) → names_hold_at p d ≡ true → names_hold_at p (bare_at d) ≡ true
+  names_of_bare_at p (child t) a = names_of_bare p t a
+  names_of_bare_at p (listed ds) a = names_of_bare_in p ds a
+  names_of_bare_at p _ a = a
+
+  names_of_bare_in : (p : ℕ → Bool) (ds : Data) → names_hold_in p ds ≡ true → names_hold_in p (bare_in ds) ≡ true
+  names_of_bare_in p none a = refl
+  names_of_bare_in p (more d ds) a = both (names_hold_at p (if is_scope d then bare_scope d else bare_at d)) (names_hold_in p (bare_in ds))
+      (field_names p d (is_scope d) (and_first (names_hold_at p d) (names_hold_in p ds) a) (names_of_bare_at p d (and_first (names_hold_at p d) (names_hold_in p ds) a)))
+      (names_of_bare_in p ds (and_second (names_hold_at p d) (names_hold_in p ds) a))
+
+-- what a table holds at a place, by either way to say it
+
+entry_or : Option (Option (List ℕ)) → Option (List ℕ)
+entry_or (Some entry) = entry
+entry_or None = None
+
+get_is : (xs : List (Option (List ℕ))) (n : ℕ) → get_or xs n None ≡ entry_or (slice_get xs n)
+get_is [] n = refl
+get_is (x ∷ xs) zero = refl
+get_is (x ∷ xs) (suc n) = get_is xs n
+
+-- the texts of matched names
+
+same_texts : (texts strings : List (Option (List ℕ))) (n : ℕ) → is_matched_text texts strings n ≡ true → get_or strings (matched texts strings n) None ≡ get_or texts n None
+same_texts texts strings n h = get_is strings (matched texts strings n) ∙ ap entry_or (matched_texts texts strings n h) ∙ sym (get_is texts n)
+
+are_texts : (texts strings : List (Option (List ℕ))) (n : ℕ) → is_matched_text texts strings n ≡ true → is_text (slice_get strings (matched texts strings n)) ≡ true
+are_texts texts strings n h = let t = matched_there texts strings n h in ap is_text t.1
+
+-- what the file of a source is read as
+
+record ReadAs (texts : List (Option (List ℕ))) (t : Tree) (l : Layout) (bytes : List ℕ) (u : Tree) : Type 0 where
+  is : u ≡ exact l.strings (renamed (matched texts l.strings) (bare t))
+  first : first_lazy u ≡ None
+  names : names_hold (is_matched_text texts l.strings) (bare t) ≡ true
+  atoms : atoms (held (tree_range bytes l)) u ≡ atoms (texts_held texts) (exact texts t)
+
+read_as : (texts : List (Option (List ℕ))) (t : Tree) (bytes : List ℕ) (l : Layout) (u : Tree) → SourceFacts texts t → InFile bytes (texts_held texts) (exact texts t) → IsFileOfScript bytes l u → ReadAs texts t l bytes u
+read_as texts t bytes l u facts file read =
+    let x = exact texts t
+    in let h = texts_held texts
+    in let r = tree_range bytes l
+    in let strings = l.strings
+    in let number = matched texts strings
+    in let p = is_matched_text texts strings
+    in let slice = slice_range bytes l.from l.to
+    in let made : IsFileOf (tables l) slice bytes = record {
+      distinct_kinds = read.made.distinct_kinds;
+      distinct_texts = read.made.distinct_texts;
+      entries = read.made.entries;
+      spelling = read.made.spelling;
+    }
+    in let same = one_reading file.tables (tables l) (spelled file.tables h x) slice bytes (file_of bytes h x file) made file.small
+    in let both_typed = and_first (typed x && is_whole x) (is_unnested x) file.typed_whole
+    in let typed_x = and_first (typed x) (is_whole x) both_typed
+    in let whole_x = and_second (typed x) (is_whole x) both_typed
+    in let eager_x = exact_eager texts t facts.eager
+    in let has : list_all (has_atom (tables l)) (atoms h x) ≡ true = subst (λ (s : Tables). list_all (has_atom s) (atoms h x) ≡ true) same.0 file.has_all
+    in let names_x = matched_tree (tables l) texts x typed_x file.named has
+    in let same_text : SameTexts number p h (held r) = same_texts texts strings
+    in let lazy_x : first_lazy x ≡ None = none_other 0 (kinds_of x) (eager_kinds x eager_x)
+    in let lazy_u : first_lazy u ≡ None = eager_read bytes h x l u file lazy_x read
+    in let whole_u = eager_is_whole u read.script.typed lazy_u
+    in let atoms_x : atoms (held r) (renamed number x) ≡ atoms h x = atoms_renamed number p h (held r) same_text x names_x whole_x
+    in let is_script : IsScript r l.from (renamed number x) = record {
+      spelled = sym same.1 ∙ ap (λ (s : Tables). spelled s h x) same.0 ∙ sym (spelled_renamed (tables l) number p h (held r) same_text x names_x whole_x);
+      kind = kind_renamed number x ∙ file.script;
+      typed = typed_renamed number x ∙ typed_x;
+      shallow = subst (λ (n : ℕ). n ≤ 512) (sym (depth_renamed number x)) file.shallow;
+      stands = stands_renamed r number p (are_texts texts strings) x names_x whole_x;
+      has_all = subst (λ (as1 : List Atom). list_all (has_atom (tables l)) as1 ≡ true) (sym atoms_x) has;
+      folded = eager_folded number x eager_x;
+      outcome = read.script.outcome ∙ ap (λ ws. record { windows = ws; fault = None }) (whole_windows u whole_u ∙ sym (whole_windows (renamed number x) (whole_renamed number x ∙ whole_x)));
+    }
+    in let u_is : renamed number x ≡ u = one_script r l.from (renamed number x) u read.made.distinct_texts is_script read.script
+    in let plain = bare t
+    in let names_plain : names_hold p plain ≡ true = subst (λ (v : Tree). names_hold p v ≡ true) (bare_of_exact texts t) (names_of_bare p x names_x)
+    in let apart = matched_apart texts strings facts.distinct
+    in record {
+      is = sym u_is ∙ ap (renamed number) (sym (exact_of_bare texts t facts.typed facts.eager))
+         ∙ sym (exact_renamed number apart p texts strings (matched_eval texts strings facts.distinct read.made.distinct_texts) plain names_plain);
+      first = lazy_u;
+      names = names_plain;
+      atoms = ap (atoms (held r)) (sym u_is) ∙ atoms_x;
+    }
+
+-- and no rule is broken there
+
+no_more : (xs ys : List Violation) → unnumbered xs ≡ unnumbered ys → xs ≡ [] → ys ≡ []
+no_more [] [] e f = refl
+no_more [] (y ∷ ys) e f = absurd cc
+no_more (x ∷ xs) ys e f = absurd cc
+
+none_found : (strings : List (Option (List ℕ))) (u : Tree) → early strings script u ≡ [] → untrue strings script u ≡ [] → first_violation strings u ≡ None
+none_found strings u e f = rw (e, f) refl
+
+sound : (texts strings : List (Option (List ℕ))) (t : Tree) → SourceFacts texts t → names_hold (is_matched_text texts strings) (bare t) ≡ true → early texts script t ≡ []
+    → first_violation strings (exact strings (renamed (matched texts strings) (bare t))) ≡ None
+sound texts strings t facts names none_early =
+    let number = matched texts strings
+    in let plain = renamed number (bare t)
+    in let typed_plain : typed plain ≡ true = typed_renamed number (bare t) ∙ bare_typed t facts.whole facts.typed
+    in let keeps : KeepsTexts number (is_matched_text texts strings) texts strings = λ n h. ap text_among (matched_texts texts strings n h)
+    in let bare_early : early texts script (bare t) ≡ [] = no_more (early texts script t) (early texts script (bare t)) (own_scopes_break_no_rule texts script t facts.typed) none_early
+    in let plain_early : early strings script plain ≡ [] =
+        numbers_of_names_break_no_rule number (matched_apart texts strings facts.distinct) (is_matched_text texts strings) texts strings keeps script (bare t) names ∙ ap (map (renamed_violation number)) bare_early
+    in let bare_plain : early strings script (bare plain) ≡ [] = no_more (early strings script plain) (early strings script (bare plain)) (own_scopes_break_no_rule strings script plain typed_plain) plain_early
+    in none_found strings (exact strings plain) ((early_of_exact strings script plain typed_plain).there bare_plain) (exact_is_true strings script plain refl typed_plain)
+
+answered : (strings : List (Option (List ℕ))) (u : Tree) (text : List ℕ) → first_lazy u ≡ None → first_violation strings u ≡ None → judged strings u text ≡ output text
+answered strings u text e f = rw (e, f) refl
+
+-- the two laws
+
+pub holds_its_tree : (input bytes : List ℕ) (l : Layout) (u : Tree) → AnswersSource input (output bytes) → IsFileOfScript bytes l u → IsExactTreeOf input bytes l u
+holds_its_tree input bytes l u source read =
+    let e = encoded input bytes (output bytes) source refl
+    in let facts = source_facts input e.texts e.tree e.source
+    in let as1 = read_as e.texts e.tree bytes l u facts e.spelled read
+    in record {
+      texts = e.texts;
+      tree = e.tree;
+      number = matched e.texts l.strings;
+      source = e.source;
+      apart = matched_apart e.texts l.strings facts.distinct;
+      is = as1.is;
+      same = as1.atoms;
+    }
+
+no_fault : {A : Type 0} (bytes : List ℕ) (f : FormatFault) → first_fault bytes ≡ Some f → first_fault bytes ≡ None → A
+no_fault bytes f e g = let bad : Some f ≡ None = sym e ∙ g in absurd cc
+
+from_test : (n m : ℕ) → nat_le n m ≡ true → n ≤ m
+from_test n m e = grind (arith, nat_tests)
+
+accepted_by : (input bytes : List ℕ) (text : Layout → Tree → List ℕ) (a : Answer) → All (λ byte. byte < 256) bytes → Encoded input bytes → AnswersFile bytes text a → IsOutputOfTree bytes text a
+accepted_by input bytes text _ small e (faulty f is) = no_fault bytes f is (in_grammar-accepted bytes (texts_held e.texts) (exact e.texts e.tree) (from_test (length bytes) most_bytes e.file.small) small e.spelled)
+accepted_by input bytes text _ small e (read l u file) =
+    let facts = source_facts input e.texts e.tree e.source
+    in let as1 = read_as e.texts e.tree bytes l u facts e.spelled file
+    in let found : first_violation l.strings u ≡ None = ap (first_violation l.strings) as1.is ∙ sound e.texts l.strings e.tree facts as1.names e.file.early
+    in record { layout = l; tree = u; read = file; is = answered l.strings u (text l u) as1.first found }
+
+pub is_accepted : (input bytes : List ℕ) (text : Layout → Tree → List ℕ) (a : Answer) → All (λ byte. byte < 256) bytes → AnswersSource input (output bytes) → AnswersFile bytes text a → IsOutputOfTree bytes text a
+is_accepted input bytes text a small source answer = accepted_by input bytes text a small (encoded input bytes (output bytes) source refl) answer
