@@ -9,6 +9,7 @@ use Rattle.scope_facts.specs.declared.context.Rule.{Rule}
 use Rattle.scope_facts.specs.Renamed.{IsInjective, renamed, renamed_at, renamed_in}
 use Rattle.early_errors.specs.declared.kinds.Place.{Place}
 use Rattle.early_errors.specs.declared.kinds.Place.TheVariants.{Inside}
+use Rattle.early_errors.specs.declared.kinds.Role.{Role}
 use Rattle.early_errors.specs.declared.rules.Finding.{Finding}
 use Rattle.early_errors.specs.declared.rules.Finding.TheVariants.{Holds, Broken}
 use Rattle.early_errors.specs.Kinds.{role, places}
@@ -34,6 +35,10 @@ rule_renamed r n q (Broken (Some m)) x qs e f h = rw (e, f, h) refl
 rules_renamed : (r : ℕ → ℕ) → IsInjective r → (n : ℕ) (x : Reading) (qs : List Rule) → filter_map (λ q. violation n q (says q (renamed_reading r x))) qs ≡ map (renamed_violation r) (filter_map (λ q. violation n q (says q x)) qs)
 rules_renamed r i n x [] = refl
 rules_renamed r i n x (q ∷ qs) = rule_renamed r n q (says q x) x qs (says_renamed r i q x) refl (rules_renamed r i n x qs)
+
+node_renamed : (r : ℕ → ℕ) → IsInjective r → (p : ℕ → Bool) (texts strings : Texts) → KeepsTexts r p texts strings → (a : Around) (n : ℕ) (ro : Role) (ds : Data) → names_hold_in p ds ≡ true
+    → filter_map (λ q. violation n q (says q (reading_by strings (renamed_around r a) ro (renamed_in r ds)))) early_rules ≡ map (renamed_violation r) (filter_map (λ q. violation n q (says q (reading_by texts a ro ds))) early_rules)
+node_renamed r i p texts strings k a n ro ds h = rw (reading_renamed r p texts strings k a ro ds h) (rules_renamed r i n (reading_by texts a ro ds) early_rules)
 
 -- numbers of nodes and places stay
 
@@ -68,8 +73,7 @@ mutual
       → flat_map (found_at strings) (sites strings (renamed_around r a) n (renamed r t)) ≡ map (renamed_violation r) (flat_map (found_at texts) (sites texts a n t))
   tree_renamed r i p texts strings k a n (branch j ds) h =
       rw (
-        reading_renamed r p texts strings k a (role j) ds h,
-        rules_renamed r i n (reading_by texts a (role j) ds) early_rules,
+        node_renamed r i p texts strings k a n (role j) ds h,
         parts_renamed r p texts strings k (role j) ds a h,
         in_renamed r i p texts strings k (places j) (parts_around texts (role j) ds a) (n + 1) ds h,
       )
