@@ -6,6 +6,9 @@ pub mod Firsts
 pub mod Inside
 pub mod QuietScopes
 pub mod ReadingOfBare
+pub mod RenamedEarly
+pub mod RenamedReading
+pub mod RenamedRules
 mod Rows
 pub mod Seen
 pub mod Sites

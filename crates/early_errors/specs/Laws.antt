@@ -1,13 +1,16 @@
 -- What holds of the definitions alone.
-use Rattle.std.specs.Prelude.{ℕ, List, [], true, ◌||◌, ◌≡◌, map}
+use Rattle.std.specs.Prelude.{ℕ, Bool, List, [], Some, true, ◌||◌, ◌≡◌, map}
+use Rattle.std.specs.Option.{option_map}
+use Rattle.bast_schema.specs.NamesHold.{names_hold}
 use Rattle.bast_schema.specs.Tree.{Tree, nodes, typed}
 use Rattle.scope_facts.specs.declared.context.Ctx.{Ctx}
 use Rattle.scope_facts.specs.declared.context.ScopeFacts.{ScopeFacts}
 use Rattle.scope_facts.specs.declared.context.Violation.{Violation}
 use Rattle.scope_facts.specs.Bare.{bare}
 use Rattle.scope_facts.specs.Exact.{exact}
+use Rattle.scope_facts.specs.Renamed.{IsInjective, renamed}
 use Rattle.early_errors.specs.declared.kinds.Place.TheVariants.{Inside}
-use Rattle.early_errors.specs.Strict.{Texts}
+use Rattle.early_errors.specs.Strict.{Texts, text_of}
 use Rattle.early_errors.specs.Around.{Around, sites, placed, start}
 use Rattle.early_errors.specs.Preorder.{preorder, numbers_from}
 use Rattle.early_errors.specs.Early.{early}
@@ -44,3 +47,16 @@ pub record BothSound (s : Texts) (c : Ctx) (t u : Tree) : Type 0 where
 -- a well-typed tree is without early errors with empty scopes exactly where it is so with exact ones
 abbrev pub EarlyOfExact : Type 0
 EarlyOfExact = (s : Texts) (c : Ctx) (t : Tree) → typed t ≡ true → BothSound s c (bare t) (exact s t)
+
+-- a violation of a tree with other numbers for its names
+abbrev pub renamed_violation : (ℕ → ℕ) → Violation → Violation
+renamed_violation r v = record { node = v.node; rule = v.rule; name = option_map (λ x. record { 0 = r x.0 }) v.name }
+
+-- of the names with a property, each stands for the same text after the renaming
+abbrev pub KeepsTexts : (ℕ → ℕ) → (ℕ → Bool) → Texts → Texts → Type 0
+KeepsTexts r p texts strings = (n : ℕ) → p n ≡ true → text_of strings (Some (r n)) ≡ text_of texts (Some n)
+
+-- the numbers of names mean nothing: a tree with other numbers for its names breaks the same rules at the same nodes
+abbrev pub NumbersBreakNoRule : Type 0
+NumbersBreakNoRule = (r : ℕ → ℕ) → IsInjective r → (p : ℕ → Bool) (texts strings : Texts) → KeepsTexts r p texts strings → (c : Ctx) (t : Tree) → names_hold p t ≡ true
+    → early strings c (renamed r t) ≡ map (renamed_violation r) (early texts c t)

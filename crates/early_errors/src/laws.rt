@@ -1,5 +1,5 @@
 // What holds of the definitions alone.
-ghost use Rattle.early_errors.specs.Laws.{EachNodeIsJudged, EarlyOfExact, InsideIsContext, NodesAreNumbered, OwnScopesBreakNoRule, ScopesBreakNoRule};
+ghost use Rattle.early_errors.specs.Laws.{EachNodeIsJudged, EarlyOfExact, InsideIsContext, NodesAreNumbered, NumbersBreakNoRule, OwnScopesBreakNoRule, ScopesBreakNoRule};
 
 /// The rules are asked at each node of a tree, in preorder.
 pub fn each_node_is_judged()
@@ -31,4 +31,9 @@ pub fn own_scopes_break_no_rule()
 /// A well-typed tree is without early errors with exact scopes exactly where it is so with empty ones.
 pub fn exact_scopes_keep_early_errors()
     ensures { EarlyOfExact }
+{}
+
+/// With other numbers for its names a tree breaks the same rules at the same nodes, by the names with these numbers.
+pub fn numbers_of_names_break_no_rule()
+    ensures { NumbersBreakNoRule }
 {}

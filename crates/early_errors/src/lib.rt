@@ -16,7 +16,8 @@ pub use around::{Flags, Label};
 pub use kinds::{Place, Role};
 pub use laws::{
     each_node_is_judged, exact_scopes_keep_early_errors, inside_is_judged_in_its_context,
-    nodes_are_numbered, own_scopes_break_no_rule, scopes_break_no_rule,
+    nodes_are_numbered, numbers_of_names_break_no_rule, own_scopes_break_no_rule,
+    scopes_break_no_rule,
 };
 pub use rules::Finding;
 pub use walk::{Step, first_early};
