@@ -1,7 +1,6 @@
 -- A tree with other numbers for its names breaks the same rules at the same nodes.
 use Rattle.std.proofs.Common.{ℕ, List, [], ◌∷◌, ◌++◌, ◌+◌, ◌≡◌, Bool, true, refl, sym, map, None, Some, flat_map, filter_map}
 use Rattle.std.proofs.lemmas.List.{map-append}
-use Rattle.std.specs.Option.{option_map}
 use Rattle.bast_schema.specs.NamesHold.{names_hold, names_hold_at, names_hold_in}
 use Rattle.bast_schema.specs.Tree.{Tree, branch, Datum, child, listed, Data, none, more, nodes, nodes_at, nodes_in}
 use Rattle.bast_schema.proofs.Both.{and_first, and_second}
