@@ -3,7 +3,7 @@ use Rattle.std.proofs.Common.{ℕ, List, [], ◌∷◌, ◌≡◌, Bool, true, f
 use Rattle.std.proofs.lemmas.List.{map-append}
 use Rattle.std.specs.List.{list_all}
 use Rattle.std.specs.Option.{option_map}
-use Rattle.bast_schema.specs.NamesHold.{names_hold, names_hold_at, names_hold_in}
+use Rattle.bast_schema.specs.NamesHold.{names_hold_at, names_hold_in}
 use Rattle.bast_schema.specs.Tree.{Tree, branch, Datum, child, listed, choice, Data, none, more}
 use Rattle.bast_schema.proofs.Both.{and_first, and_second}
 use Rattle.scope_facts.specs.declared.names.Declared.{Declared}
