@@ -1,22 +1,18 @@
 -- What a source is encoded to is accepted, and is read as the tree of the source with exact scopes.
-use Rattle.std.proofs.Common.{◌≡◌, ℕ, zero, suc, ◌<◌, ◌≤◌, ◌+◌, ◌&&◌, not, Bool, true, false, List, [], ◌∷◌, ◌++◌, map, length, nat_le, get_or, slice_get, Option, Some, None, Ok, refl, subst, sym, ap, ◌∙◌, if◌then◌else◌, arith}
+use Rattle.std.proofs.Common.{◌≡◌, ℕ, zero, suc, ◌<◌, ◌≤◌, ◌&&◌, not, Bool, true, false, List, [], ◌∷◌, map, length, nat_le, get_or, slice_get, Option, Some, None, Ok, refl, subst, sym, ap, ◌∙◌, if◌then◌else◌, arith}
 use Rattle.std.proofs.lemmas.Bool.Decides.{nat_tests}
 use Rattle.std.specs.List.{All, list_all}
 use Rattle.std.specs.Prelude.{slice_range}
 use Rattle.bast_base.specs.declared.errors.FormatFault.{FormatFault}
-use Rattle.bast_schema.specs.declared.kind.Kind.{Kind}
-use Rattle.bast_schema.specs.declared.kind.Kind.TheVariants.{Script}
 use Rattle.bast_schema.specs.Counts.{is_whole}
 use Rattle.bast_schema.specs.Eager.{is_eager, is_eager_at, are_eager}
 use Rattle.bast_schema.specs.Fields.{has_lazy}
-use Rattle.bast_schema.specs.Held.{Held, text_of}
 use Rattle.bast_schema.specs.NamesHold.{names_hold, names_hold_at, names_hold_in}
-use Rattle.bast_schema.specs.Tree.{Tree, branch, Datum, child, listed, Data, none, more, typed, kind_of, depth}
+use Rattle.bast_schema.specs.Tree.{Tree, branch, Datum, child, listed, Data, none, more, typed}
 use Rattle.bast_schema.proofs.Both.{and_first, and_second}
 use Rattle.container.specs.Atoms.{Atom, atoms}
 use Rattle.container.specs.InFile.{InFile, has_atom, is_unnested}
 use Rattle.container.specs.IsContainer.{IsFileOf, tables}
-use Rattle.container.specs.Named.{named}
 use Rattle.container.specs.Spelled.{spelled}
 use Rattle.container.specs.Tables.{Tables}
 use Rattle.container.specs.declared.layout.Layout.{Layout}
@@ -25,13 +21,13 @@ use Rattle.early_errors.specs.Early.{early, first}
 use Rattle.early_errors.specs.Laws.{unnumbered, KeepsTexts, renamed_violation}
 use Rattle.early_errors.specs.Strict.{text_among}
 use Rattle.early_errors.proofs.BareEarly.{own_scopes_break_no_rule, early_of_exact}
-use Rattle.early_errors.proofs.RenamedEarly.{numbers_of_names_break_no_rule}
+use Rattle.early_errors.proofs.RenamedEarly.{numbers_break_no_rule}
 use Rattle.scope_check.specs.Untrue.{untrue}
 use Rattle.scope_check.proofs.ExactTrue.{exact_is_true}
 use Rattle.scope_facts.specs.declared.context.Violation.{Violation}
 use Rattle.scope_facts.specs.Bare.{bare, bare_at, bare_in, bare_scope, empty_fields}
-use Rattle.scope_facts.specs.Exact.{exact, eval_name}
-use Rattle.scope_facts.specs.Renamed.{IsInjective, renamed}
+use Rattle.scope_facts.specs.Exact.{exact}
+use Rattle.scope_facts.specs.Renamed.{renamed}
 use Rattle.scope_facts.specs.Roles.{shape_of}
 use Rattle.scope_facts.specs.Uses.{is_scope}
 use Rattle.scope_facts.specs.declared.roles.Shape.{Shape}
@@ -42,25 +38,22 @@ use Rattle.scope_facts.proofs.ExactOfBare.{exact_of_bare}
 use Rattle.scope_facts.proofs.RenamedExact.{exact_renamed}
 use Rattle.scope_facts.proofs.RenamedTyped.{kind_renamed, typed_renamed}
 use Rattle.tree_decoder.specs.Found.{is_text}
-use Rattle.tree_decoder.specs.Outcome.{Outcome}
 use Rattle.tree_decoder.specs.Outer.{tree_range}
-use Rattle.tree_decoder.specs.Range.{held, left}
-use Rattle.tree_decoder.specs.Script.{IsScript, script_outcome}
-use Rattle.tree_decoder.specs.Windows.{windows}
+use Rattle.tree_decoder.specs.Range.{held}
+use Rattle.tree_decoder.specs.Script.{IsScript}
 use Rattle.tree_decoder.proofs.OneScript.{one_script}
 use Rattle.tree_encoder.specs.File.{texts_held}
 use Rattle.binast_run.specs.Answer.{Answer, output, refusal, most_bytes}
-use Rattle.binast_run.specs.Judging.{first_violation, earlier}
+use Rattle.binast_run.specs.Judging.{first_violation}
 use Rattle.binast_run.specs.LazyKinds.{is_eager_kind, first_lazy, kinds_of, kinds_at, kinds_in}
 use Rattle.binast_run.specs.Laws.{IsExactTreeOf, IsOutputOfTree}
 use Rattle.binast_run.specs.Lines.{large_file_line}
 use Rattle.binast_run.specs.Reading.{first_fault, IsFileOfScript}
-use Rattle.binast_run.specs.Result.{AnswersFile, faulty, read, judged, unless_lazy, unless_untrue}
+use Rattle.binast_run.specs.Result.{AnswersFile, faulty, read, judged}
 use Rattle.binast_run.specs.SourceLines.{source_line, violation_text}
-use Rattle.binast_run.specs.Sources.{AnswersSource, IsSpelled, no_text, no_tree, has_tree, script, source_file, file_answer, early_answer, tree_answer}
+use Rattle.binast_run.specs.Sources.{AnswersSource, no_text, no_tree, has_tree, script, source_file, early_answer}
 use Rattle.binast_run.proofs.EagerKept.{exact_eager}
 use Rattle.binast_run.proofs.EagerWhole.{eager_is_whole}
-use Rattle.binast_run.proofs.ExactNamed.{exact_kind}
 use Rattle.binast_run.proofs.InGrammar.{in_grammar-accepted}
 use Rattle.binast_run.proofs.LazyAtoms.{eager_read, joined, none_other}
 use Rattle.binast_run.proofs.Matching.{matched, matched_apart, is_matched_text, matched_texts, matched_there, matched_eval}
@@ -82,7 +75,7 @@ record FileOf (texts : List (Option (List ℕ))) (t : Tree) (bytes : List ℕ) :
   small : nat_le (length bytes) most_bytes ≡ true
 
 refused : {A : Type 0} (line bytes : List ℕ) → refusal line ≡ output bytes → A
-refused line bytes e = let one : 1 ≡ 0 = ap (λ (a : Answer). a.status) e in absurd cc
+refused line bytes e = let one : 1 ≡ 0 = ap (λ (a : Answer). a.status) e in absurd (omega (arith, one))
 
 file_bytes : (b : Bool) (made bytes : List ℕ) → nat_le (length made) most_bytes ≡ b → (if b then output made else refusal large_file_line) ≡ output bytes → (bytes ≡ made) × (nat_le (length bytes) most_bytes ≡ true)
 file_bytes true made bytes s e = let same : bytes ≡ made = sym (ap (λ (a : Answer). a.text) e) in (same, ap (λ (b : List ℕ). nat_le (length b) most_bytes) same ∙ s)
@@ -160,7 +153,7 @@ mutual
 
 -- what a table holds at a place, by either way to say it
 
-entry_or : Option (Option (List ℕ)) → Option (List ℕ)
+abbrev entry_or : Option (Option (List ℕ)) → Option (List ℕ)
 entry_or (Some entry) = entry
 entry_or None = None
 
@@ -186,7 +179,7 @@ record ReadAs (texts : List (Option (List ℕ))) (t : Tree) (l : Layout) (bytes 
   atoms : atoms (held (tree_range bytes l)) u ≡ atoms (texts_held texts) (exact texts t)
 
 read_as : (texts : List (Option (List ℕ))) (t : Tree) (bytes : List ℕ) (l : Layout) (u : Tree) → SourceFacts texts t → InFile bytes (texts_held texts) (exact texts t) → IsFileOfScript bytes l u → ReadAs texts t l bytes u
-read_as texts t bytes l u facts file read =
+read_as texts t bytes l u facts file was =
     let x = exact texts t
     in let h = texts_held texts
     in let r = tree_range bytes l
@@ -195,10 +188,10 @@ read_as texts t bytes l u facts file read =
     in let p = is_matched_text texts strings
     in let slice = slice_range bytes l.from l.to
     in let made : IsFileOf (tables l) slice bytes = record {
-      distinct_kinds = read.made.distinct_kinds;
-      distinct_texts = read.made.distinct_texts;
-      entries = read.made.entries;
-      spelling = read.made.spelling;
+      distinct_kinds = was.made.distinct_kinds;
+      distinct_texts = was.made.distinct_texts;
+      entries = was.made.entries;
+      spelling = was.made.spelling;
     }
     in let same = one_reading file.tables (tables l) (spelled file.tables h x) slice bytes (file_of bytes h x file) made file.small
     in let both_typed = and_first (typed x && is_whole x) (is_unnested x) file.typed_whole
@@ -209,8 +202,8 @@ read_as texts t bytes l u facts file read =
     in let names_x = matched_tree (tables l) texts x typed_x file.named has
     in let same_text : SameTexts number p h (held r) = same_texts texts strings
     in let lazy_x : first_lazy x ≡ None = none_other 0 (kinds_of x) (eager_kinds x eager_x)
-    in let lazy_u : first_lazy u ≡ None = eager_read bytes h x l u file lazy_x read
-    in let whole_u = eager_is_whole u read.script.typed lazy_u
+    in let lazy_u : first_lazy u ≡ None = eager_read bytes h x l u file lazy_x was
+    in let whole_u = eager_is_whole u was.script.typed lazy_u
     in let atoms_x : atoms (held r) (renamed number x) ≡ atoms h x = atoms_renamed number p h (held r) same_text x names_x whole_x
     in let is_script : IsScript r l.from (renamed number x) = record {
       spelled = sym same.1 ∙ ap (λ (s : Tables). spelled s h x) same.0 ∙ sym (spelled_renamed (tables l) number p h (held r) same_text x names_x whole_x);
@@ -220,15 +213,15 @@ read_as texts t bytes l u facts file read =
       stands = stands_renamed r number p (are_texts texts strings) x names_x whole_x;
       has_all = subst (λ (as1 : List Atom). list_all (has_atom (tables l)) as1 ≡ true) (sym atoms_x) has;
       folded = eager_folded number x eager_x;
-      outcome = read.script.outcome ∙ ap (λ ws. record { windows = ws; fault = None }) (whole_windows u whole_u ∙ sym (whole_windows (renamed number x) (whole_renamed number x ∙ whole_x)));
+      outcome = was.script.outcome ∙ ap (λ ws. record { windows = ws; fault = None }) (whole_windows u whole_u ∙ sym (whole_windows (renamed number x) (whole_renamed number x ∙ whole_x)));
     }
-    in let u_is : renamed number x ≡ u = one_script r l.from (renamed number x) u read.made.distinct_texts is_script read.script
+    in let u_is : renamed number x ≡ u = one_script r l.from (renamed number x) u was.made.distinct_texts is_script was.script
     in let plain = bare t
     in let names_plain : names_hold p plain ≡ true = subst (λ (v : Tree). names_hold p v ≡ true) (bare_of_exact texts t) (names_of_bare p x names_x)
     in let apart = matched_apart texts strings facts.distinct
     in record {
       is = sym u_is ∙ ap (renamed number) (sym (exact_of_bare texts t facts.typed facts.eager))
-         ∙ sym (exact_renamed number apart p texts strings (matched_eval texts strings facts.distinct read.made.distinct_texts) plain names_plain);
+          ∙ sym (exact_renamed number apart p texts strings (matched_eval texts strings facts.distinct was.made.distinct_texts) plain names_plain);
       first = lazy_u;
       names = names_plain;
       atoms = ap (atoms (held r)) (sym u_is) ∙ atoms_x;
@@ -253,7 +246,7 @@ sound texts strings t facts names none_early =
     in let keeps : KeepsTexts number (is_matched_text texts strings) texts strings = λ n h. ap text_among (matched_texts texts strings n h)
     in let bare_early : early texts script (bare t) ≡ [] = no_more (early texts script t) (early texts script (bare t)) (own_scopes_break_no_rule texts script t facts.typed) none_early
     in let plain_early : early strings script plain ≡ [] =
-        numbers_of_names_break_no_rule number (matched_apart texts strings facts.distinct) (is_matched_text texts strings) texts strings keeps script (bare t) names ∙ ap (map (renamed_violation number)) bare_early
+    numbers_break_no_rule number (matched_apart texts strings facts.distinct) (is_matched_text texts strings) texts strings keeps script (bare t) names ∙ ap (map (renamed_violation number)) bare_early
     in let bare_plain : early strings script (bare plain) ≡ [] = no_more (early strings script plain) (early strings script (bare plain)) (own_scopes_break_no_rule strings script plain typed_plain) plain_early
     in none_found strings (exact strings plain) ((early_of_exact strings script plain typed_plain).there bare_plain) (exact_is_true strings script plain refl typed_plain)
 
@@ -263,10 +256,10 @@ answered strings u text e f = rw (e, f) refl
 -- the two laws
 
 pub holds_its_tree : (input bytes : List ℕ) (l : Layout) (u : Tree) → AnswersSource input (output bytes) → IsFileOfScript bytes l u → IsExactTreeOf input bytes l u
-holds_its_tree input bytes l u source read =
+holds_its_tree input bytes l u source was =
     let e = encoded input bytes (output bytes) source refl
     in let facts = source_facts input e.texts e.tree e.source
-    in let as1 = read_as e.texts e.tree bytes l u facts e.spelled read
+    in let as1 = read_as e.texts e.tree bytes l u facts e.spelled was
     in record {
       texts = e.texts;
       tree = e.tree;

@@ -1,8 +1,7 @@
 -- The numbers that a second table gives to the texts of a first.
-use Rattle.std.proofs.Common.{ℕ, List, [], ◌∷◌, ◌+◌, ◌<◌, ◌≤◌, ◌≡◌, Bool, true, false, refl, ap, sym, ◌∙◌, subst, ◌&&◌, nat_eq, length, slice_get, get_or, Option, Some, None, is_some, codes, arith}
+use Rattle.std.proofs.Common.{ℕ, zero, suc, List, [], ◌∷◌, ◌+◌, ◌<◌, ◌≡◌, Bool, true, false, refl, ap, sym, ◌∙◌, ◌&&◌, nat_eq, length, slice_get, get_or, Option, Some, None, is_some, codes, arith}
 use Rattle.std.proofs.lemmas.Bool.Decides.{nat_tests}
 use Rattle.bast_schema.proofs.Both.{and_first, and_second}
-use Rattle.early_errors.specs.Laws.{KeepsTexts}
 use Rattle.js_parser.specs.Texts.{is_text}
 use Rattle.scope_facts.specs.Exact.{eval_name}
 use Rattle.scope_facts.specs.Renamed.{IsInjective, KeepsEval, is_eval_name}
@@ -43,7 +42,7 @@ same_some x y e = cc
 
 within : {A : Type 0} (xs : List A) (i : ℕ) (x : A) → slice_get xs i ≡ Some x → i < length xs
 within [] i x e = cc
-within (y ∷ xs) 0 x e = omega arith
+within (y ∷ xs) zero x e = omega arith
 within (y ∷ xs) (suc i) x e = let l : i < length xs = within xs i x e in omega arith
 
 one_number : (texts strings : List (Option (List ℕ))) (n m p q : ℕ) → AreDistinct texts → IsMatched texts strings n p → IsMatched texts strings m q → p ≡ q → n ≡ m
@@ -83,8 +82,8 @@ record TextIn (texts strings : List (Option (List ℕ))) (n : ℕ) : Type 0 wher
 
 text_here : (texts : List (Option (List ℕ))) (n : ℕ) → is_text texts n ≡ true → (t : List ℕ) × (slice_get texts n ≡ Some (Some t)) × (get_or texts n None ≡ Some t)
 text_here [] n h = absurd cc
-text_here (Some t ∷ texts) 0 h = (t, refl, refl)
-text_here (None ∷ texts) 0 h = absurd cc
+text_here (Some t ∷ texts) zero h = (t, refl, refl)
+text_here (None ∷ texts) zero h = absurd cc
 text_here (entry ∷ texts) (suc n) h = text_here texts n h
 
 some_place : (o : Option ℕ) → is_some o ≡ true → (p : ℕ) × (o ≡ Some p)
@@ -116,12 +115,12 @@ matched_there texts strings n h = let t = text_in texts strings n h in (t.text, 
 -- whether the entry at a place is this one is whether the place is the entry's
 place_tested : (xs : List (Option (List ℕ))) (w e : Option (List ℕ)) (n : ℕ) (o : Option ℕ) (b : Bool) → AreDistinct xs → slice_get xs n ≡ Some e → place_in xs w ≡ o → is_same w e ≡ b → is_eval_name o n ≡ b
 place_tested xs w e n None true d here place same =
-    let we : w ≡ e = grind (is_same-Decides)
+    let we : w ≡ e = grind (arith, is_same-Decides)
     in let own : place_in xs e ≡ Some n = place_in-own xs e n d here
     in let bad : None ≡ Some n = sym place ∙ ap (place_in xs) we ∙ own in absurd cc
 place_tested xs w e n None false d here place same = refl
 place_tested xs w e n (Some q) true d here place same =
-    let we : w ≡ e = grind (is_same-Decides)
+    let we : w ≡ e = grind (arith, is_same-Decides)
     in let own : Some q ≡ Some n = sym place ∙ ap (place_in xs) we ∙ place_in-own xs e n d here
     in let q_is : q ≡ n = same_some q n own in grind (arith, nat_tests)
 place_tested xs w e n (Some q) false d here place same = tested (nat_eq n q) refl
@@ -130,7 +129,7 @@ place_tested xs w e n (Some q) false d here place same = tested (nat_eq n q) ref
     tested true f =
         let n_is : n ≡ q = grind (arith, nat_tests)
         in let ew : e ≡ w = same_some e w (sym here ∙ ap (slice_get xs) n_is ∙ slice_get-place_in xs w q place)
-        in let bad : is_same w e ≡ true = grind (is_same-Decides) in absurd cc
+        in let bad : is_same w e ≡ true = grind (arith, is_same-Decides) in absurd cc
     tested false f = f
 
 -- and the text eval is that of the same names

@@ -1,8 +1,7 @@
 -- A renamed tree is spelled as the tree, where each name stands for the same text.
-use Rattle.std.proofs.Common.{ℕ, zero, suc, List, [], ◌∷◌, ◌++◌, ◌+◌, ◌≤◌, ◌≡◌, Bool, true, false, refl, ap, sym, ◌∙◌, max, not, ◌&&◌, ◌||◌, slice_get, get_or, Option, Some, None, is_some, if◌then◌else◌}
+use Rattle.std.proofs.Common.{ℕ, List, [], ◌∷◌, ◌++◌, ◌+◌, ◌≡◌, Bool, true, false, refl, ap, not, ◌||◌, slice_get, get_or, Option, Some, None, is_some, if◌then◌else◌}
 use Rattle.std.specs.List.{list_any, list_all}
 use Rattle.var_numbers.specs.Varnum.{varnum}
-use Rattle.bast_schema.specs.declared.kind.Kind.{Kind}
 use Rattle.bast_schema.specs.declared.kind.Union.{Union}
 use Rattle.bast_schema.specs.declared.kind.Union.TheVariants.{Body}
 use Rattle.bast_schema.specs.declared.kind.FieldType.{FieldType}
@@ -13,13 +12,13 @@ use Rattle.bast_schema.specs.Fields.{fields, has_lazy, is_lazy_type}
 use Rattle.bast_schema.specs.Held.{Held, text_of}
 use Rattle.bast_schema.specs.Kinds.{counted}
 use Rattle.bast_schema.specs.NamesHold.{names_hold, names_hold_at, names_hold_in}
-use Rattle.bast_schema.specs.Tree.{Tree, branch, Datum, child, absent, listed, flag, index, whole, name, no_name, choice, window, Data, none, more, typed, fits, fit, items_fit, item_type, count, depth, depth_at, depth_in}
+use Rattle.bast_schema.specs.Tree.{Tree, branch, Datum, child, listed, name, window, Data, none, more, typed, fits, fit, items_fit, item_type, count, depth, depth_at, depth_in}
 use Rattle.bast_schema.proofs.Both.{and_first, and_second}
 use Rattle.container.specs.Atoms as atom
 use Rattle.container.specs.Atoms.{Atom, atoms, atoms_of, atoms_of_fields, atoms_of_items}
 use Rattle.container.specs.InFile.{has_atom}
 use Rattle.container.specs.Named.{named, named_at, all_named}
-use Rattle.container.specs.Spelled.{framed, spelled, spelled_fields, spelled_at, spelled_items}
+use Rattle.container.specs.Spelled.{spelled, spelled_fields, spelled_at, spelled_items}
 use Rattle.container.specs.Tables.{Tables, kind_place}
 use Rattle.scope_facts.specs.Renamed.{renamed, renamed_at, renamed_in}
 use Rattle.string_table.specs.Entries.{is_same, place_in}
@@ -52,8 +51,10 @@ mutual
   fields_renamed s r p h g same [] (more d ds) a w = refl
   fields_renamed s r p h g same (t ∷ ts) none a w = refl
   fields_renamed s r p h g same (t ∷ ts) (more d ds) a w =
-      rw (value_renamed s r p h g same t d (and_first (names_hold_at p d) (names_hold_in p ds) a) (and_first (is_whole_at d) (is_whole_in ds) w),
-          fields_renamed s r p h g same ts ds (and_second (names_hold_at p d) (names_hold_in p ds) a) (and_second (is_whole_at d) (is_whole_in ds) w)) refl
+      rw (
+        value_renamed s r p h g same t d (and_first (names_hold_at p d) (names_hold_in p ds) a) (and_first (is_whole_at d) (is_whole_in ds) w),
+        fields_renamed s r p h g same ts ds (and_second (names_hold_at p d) (names_hold_in p ds) a) (and_second (is_whole_at d) (is_whole_in ds) w),
+      ) refl
 
   value_renamed : (s : Tables) (r : ℕ → ℕ) (p : ℕ → Bool) (h g : Held) → SameTexts r p h g → (t : FieldType) (d : Datum) → names_hold_at p d ≡ true → is_whole_at d ≡ true
       → spelled_at s g t (renamed_at r d) ≡ spelled_at s h t d
@@ -67,8 +68,10 @@ mutual
       → spelled_items s g (renamed_in r ds) ≡ spelled_items s h ds
   items_renamed s r p h g same none a w = refl
   items_renamed s r p h g same (more d ds) a w =
-      rw (value_renamed s r p h g same (field.Optional Body) d (and_first (names_hold_at p d) (names_hold_in p ds) a) (and_first (is_whole_at d) (is_whole_in ds) w),
-          items_renamed s r p h g same ds (and_second (names_hold_at p d) (names_hold_in p ds) a) (and_second (is_whole_at d) (is_whole_in ds) w)) refl
+      rw (
+        value_renamed s r p h g same (field.Optional Body) d (and_first (names_hold_at p d) (names_hold_in p ds) a) (and_first (is_whole_at d) (is_whole_in ds) w),
+        items_renamed s r p h g same ds (and_second (names_hold_at p d) (names_hold_in p ds) a) (and_second (is_whole_at d) (is_whole_in ds) w),
+      ) refl
 
 mutual
   pub atoms_renamed : (r : ℕ → ℕ) (p : ℕ → Bool) (h g : Held) → SameTexts r p h g → (t : Tree) → names_hold p t ≡ true → is_whole t ≡ true → atoms g (renamed r t) ≡ atoms h t
@@ -80,8 +83,10 @@ mutual
   field_atoms r p h g same [] (more d ds) a w = refl
   field_atoms r p h g same (t ∷ ts) none a w = refl
   field_atoms r p h g same (t ∷ ts) (more d ds) a w =
-      rw (value_atoms r p h g same t d (and_first (names_hold_at p d) (names_hold_in p ds) a) (and_first (is_whole_at d) (is_whole_in ds) w),
-          field_atoms r p h g same ts ds (and_second (names_hold_at p d) (names_hold_in p ds) a) (and_second (is_whole_at d) (is_whole_in ds) w)) refl
+      rw (
+        value_atoms r p h g same t d (and_first (names_hold_at p d) (names_hold_in p ds) a) (and_first (is_whole_at d) (is_whole_in ds) w),
+        field_atoms r p h g same ts ds (and_second (names_hold_at p d) (names_hold_in p ds) a) (and_second (is_whole_at d) (is_whole_in ds) w),
+      ) refl
 
   value_atoms : (r : ℕ → ℕ) (p : ℕ → Bool) (h g : Held) → SameTexts r p h g → (t : FieldType) (d : Datum) → names_hold_at p d ≡ true → is_whole_at d ≡ true
       → atoms_of g t (renamed_at r d) ≡ atoms_of h t d
@@ -95,8 +100,10 @@ mutual
       → atoms_of_items g (renamed_in r ds) ≡ atoms_of_items h ds
   item_atoms r p h g same none a w = refl
   item_atoms r p h g same (more d ds) a w =
-      rw (value_atoms r p h g same (field.Optional Body) d (and_first (names_hold_at p d) (names_hold_in p ds) a) (and_first (is_whole_at d) (is_whole_in ds) w),
-          item_atoms r p h g same ds (and_second (names_hold_at p d) (names_hold_in p ds) a) (and_second (is_whole_at d) (is_whole_in ds) w)) refl
+      rw (
+        value_atoms r p h g same (field.Optional Body) d (and_first (names_hold_at p d) (names_hold_in p ds) a) (and_first (is_whole_at d) (is_whole_in ds) w),
+        item_atoms r p h g same ds (and_second (names_hold_at p d) (names_hold_in p ds) a) (and_second (is_whole_at d) (is_whole_in ds) w),
+      ) refl
 
 -- each renamed name is the place of a text
 

@@ -1,5 +1,5 @@
 -- What holds of the tree of a source.
-use Rattle.std.proofs.Common.{◌≡◌, ℕ, true, List, [], ◌∷◌, Option, Some, None, Ok, refl, subst, sym}
+use Rattle.std.proofs.Common.{◌≡◌, ℕ, true, List, [], ◌∷◌, Option, Some, None, Ok, subst, sym}
 use Rattle.std.specs.List.{IsDistinct}
 use Rattle.bast_schema.specs.declared.kind.FieldType.TheVariants as field
 use Rattle.bast_schema.specs.declared.kind.Kind.TheVariants.{Script}
@@ -19,7 +19,7 @@ use Rattle.js_tree.specs.Tells.{IsScriptOrDeep}
 use Rattle.js_tree.proofs.Scripts.{trees_are_scripts}
 use Rattle.js_tree.proofs.Told.{accepted_have_trees}
 use Rattle.js_tree.proofs.TreesHold.{trees_are_whole, trees_are_eager, trees_have_names}
-use Rattle.string_table.specs.Entries.{AreDistinct, is_same}
+use Rattle.string_table.specs.Entries.{AreDistinct}
 use Rattle.string_table.proofs.Laws.{AreDistinct-added}
 
 with_text_distinct : (entries : List (Option (List ℕ))) (o : Option (List ℕ)) → AreDistinct entries → AreDistinct (with_text entries o)

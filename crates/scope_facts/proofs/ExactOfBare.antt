@@ -1,5 +1,5 @@
 -- The exact scopes of a well-typed tree don't depend on the scopes that it has.
-use Rattle.std.proofs.Common.{ℕ, List, Option, [], ◌∷◌, ◌≡◌, Bool, true, false, refl, ap, sym, ◌∙◌, ◌&&◌, ◌||◌, not, if◌then◌else◌}
+use Rattle.std.proofs.Common.{ℕ, List, Option, [], ◌∷◌, ◌≡◌, Bool, true, false, refl, ap, ◌∙◌, ◌||◌, not, if◌then◌else◌}
 use Rattle.bast_schema.specs.declared.kind.Kind.{Kind}
 use Rattle.bast_schema.specs.declared.kind.Kind.TheVariants.{LazyFunctionDeclaration, LazyMethod, LazyGetter, LazySetter, LazyFunctionExpression}
 use Rattle.bast_schema.specs.declared.kind.Union.{Union}

@@ -1,10 +1,9 @@
 -- A renamed tree is as well typed as the tree.
-use Rattle.std.proofs.Common.{ℕ, List, [], ◌∷◌, ◌≡◌, Bool, refl, ap}
+use Rattle.std.proofs.Common.{ℕ, List, [], ◌∷◌, ◌≡◌, Bool, refl}
 use Rattle.bast_schema.specs.declared.kind.Union.{Union}
 use Rattle.bast_schema.specs.declared.kind.FieldType.{FieldType}
 use Rattle.bast_schema.specs.declared.kind.FieldType.TheVariants as field
 use Rattle.bast_schema.specs.Fields.{fields}
-use Rattle.bast_schema.specs.Unions.{allowed}
 use Rattle.bast_schema.specs.Tree.{Tree, branch, Datum, child, absent, listed, flag, index, whole, name, no_name, choice, window, Data, none, more, typed, fits, fit, items_fit, item_type, is_none, kind_of}
 use Rattle.scope_facts.specs.Renamed.{renamed, renamed_at, renamed_in}
 
