@@ -4,6 +4,7 @@ use std::test::Fail;
 mod budget;
 mod builder;
 mod cases;
+mod covers;
 mod functions;
 mod shown;
 mod statements;
