@@ -22,13 +22,13 @@ use Rattle.scope_facts.specs.Flagged.{with_flag, entries_by, flagged_scope, flag
 use Rattle.scope_facts.specs.Frames.{Frame, frame, fine_use, inside, respects, respects_at, respects_in, respects_among}
 use Rattle.scope_facts.specs.Reading.{says_eval, evals_told, evals_told_at, evals_told_in, evals_told_among}
 use Rattle.scope_facts.proofs.BareSame.{is_filled_scope, is_filled, is_flagged_scope, is_flagged}
-use Rattle.scope_facts.proofs.Clean.{takes_scope, is_plain_list, all_plain_lists, plain_lists, child_typed, clean_in, fit_clean, exact_clean_in}
+use Rattle.scope_facts.proofs.Clean.{item_plain, takes_scope, is_plain_list, all_plain_lists, plain_lists, child_typed, clean_in, fit_clean, exact_clean_in}
 use Rattle.scope_facts.proofs.ExactNames.{bound_exact, entries_exact, is_simple_exact}
 use Rattle.scope_facts.proofs.Kept.{uses_captured, evals_are_told}
 use Rattle.scope_check.specs.declared.finding.Finding.TheVariants.{Fine}
 use Rattle.scope_check.specs.Entries.{keys, differing, flags_agree, judged_flag, judged, says_by}
 use Rattle.scope_check.specs.Untrue.{entries_rule, found, untrue_scope, untrue_from, untrue_at, untrue_in, untrue_among, frames_inside, all_tell, untrue}
-use Rattle.scope_check.proofs.Differing.{apart, differ_nowhere}
+use Rattle.scope_check.proofs.Differing.{apart, differ_nowhere, or_right}
 use Rattle.scope_check.proofs.Apart.{at_most_one, keys_flag, entries_apart}
 use Rattle.scope_check.proofs.OneName.{takes, has_bound_scope, names_once, holds_bound_scope, one_rest_fits}
 
@@ -134,14 +134,6 @@ node_true e fs told n k ds h r v = rw (
   eval_told (is_eval e (part k) ds) told (and_first (not (is_eval e (part k) ds) || told) (evals_told_in e told ds) v),
 )
     (h (inside (part k) fs) (and_second (fine_use fs (part k) ds) (respects_in (inside (part k) fs) ds) r) (and_second (not (is_eval e (part k) ds) || told) (evals_told_in e told ds) v))
-
-item_plain : (u : Union) (holes : Bool) → is_plain_list (item_type u holes) ≡ true
-item_plain u true = refl
-item_plain u false = refl
-
-or_right : (a b : Bool) → b ≡ true → (a || b) ≡ true
-or_right true b e = refl
-or_right false b e = e
 
 -- what stands around the names of a node: they are those that its values bind with exact scopes too
 bound_true : (e : Option ℕ) (fs : List Frame) (told : Bool) (n : ℕ) (ns : List ℕ) (ds : Data) → bound ds ≡ ns

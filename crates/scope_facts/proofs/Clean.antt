@@ -419,12 +419,5 @@ mutual
 
   pub exact_clean_among : (e : Option ℕ) (ds : Data) (u : Union) (holes : Bool) → not (takes_scope u) ≡ true → items_fit u holes ds ≡ true → clean_in (flagged_among e (filled_among ds)) ≡ true
   exact_clean_among e none u holes p f = refl
-  exact_clean_among e (more d ds) u holes p f = rw (exact_item_clean e d (item_no_scope u holes d p (and_first (fits (item_type u holes) d) (items_fit u holes ds) f)) (exact_clean_at_item e d u holes (and_first (fits (item_type u holes) d) (items_fit u holes ds) f)))
+  exact_clean_among e (more d ds) u holes p f = rw (exact_item_clean e d (item_no_scope u holes d p (and_first (fits (item_type u holes) d) (items_fit u holes ds) f)) (exact_clean_at e d (item_type u holes) (item_plain u holes) (and_first (fits (item_type u holes) d) (items_fit u holes ds) f)))
       (exact_clean_among e ds u holes p (and_second (fits (item_type u holes) d) (items_fit u holes ds) f))
-
-  exact_clean_at_item : (e : Option ℕ) (d : Datum) (u : Union) (holes : Bool) → fits (item_type u holes) d ≡ true → clean_at (flagged_at e (filled_at d)) ≡ true
-  exact_clean_at_item e (child t) u true f = exact_clean e t (and_second (allowed u (kind_of t)) (typed t) f)
-  exact_clean_at_item e (child t) u false f = exact_clean e t (and_second (allowed u (kind_of t)) (typed t) f)
-  exact_clean_at_item e (listed ds) u true f = cc
-  exact_clean_at_item e (listed ds) u false f = cc
-  exact_clean_at_item e _ u holes f = refl
