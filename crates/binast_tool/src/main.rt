@@ -2,6 +2,9 @@
 //! The status is that of `run`, but 5 or 7 where the words can't be had; then nothing is written.
 #![tactic(auto)]
 
+#[cfg(test)]
+mod limits;
+
 use bast_base::{Chars, StdSink, StdSource, Steps};
 use binast_run::{Idle, run};
 use std::alloc::{AllocError, Global};

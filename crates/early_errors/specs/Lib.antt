@@ -10,3 +10,4 @@ pub mod Reading
 pub mod Repeats
 pub mod Rules
 pub mod Strict
+pub mod TextFacts

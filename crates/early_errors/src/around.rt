@@ -4,12 +4,12 @@ ghost use Rattle.scope_facts.specs.Uses.{first_name};
 ghost use Rattle.early_errors.specs.Around.{loops, loop_at, loop_in, is_const, flags_in, with_label, is_labelled, flags_at, labels_at, place_first, place_rest, start};
 
 use crate::kinds::{Place, Role, role_of};
+use crate::known::KnownTexts;
 use crate::strict::is_own_strict;
 use bast_base::Memory;
 use bast_schema::{Node, Value};
 use scope_facts::{Ctx, first_name_of};
 use std::alloc::Global;
-use string_table::StringTable;
 
 /// What is known of the code around a node.
 #[derive(Clone, Copy)]
@@ -92,25 +92,25 @@ fn is_constant(fields: &[Value]) -> bool
 
 /// What is known around the parts of a node.
 pub(crate) fn flags_of_parts(
-    strings: &StringTable,
+    texts: &KnownTexts<'_>,
     role: Role,
     fields: &[Value],
     flags: Flags,
 ) -> Flags
-    ensures { result ≡ flags_in strings.now role (data_of fields.now) flags }
+    ensures { result ≡ flags_in texts.now role (data_of fields.now) flags }
 {
     match role {
         Role::Script => Flags {
-            strict: flags.strict || is_own_strict(strings, fields),
+            strict: flags.strict || is_own_strict(texts, fields),
             ..flags
         },
         Role::Function => Flags {
-            own_strict: is_own_strict(strings, fields),
+            own_strict: is_own_strict(texts, fields),
             unique: false,
             ..flags
         },
         Role::Method => Flags {
-            own_strict: is_own_strict(strings, fields),
+            own_strict: is_own_strict(texts, fields),
             unique: true,
             ..flags
         },

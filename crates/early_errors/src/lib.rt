@@ -5,6 +5,7 @@ mod around;
 mod chosen;
 mod declares;
 mod kinds;
+mod known;
 mod laws;
 mod repeats;
 mod rules;
@@ -14,6 +15,7 @@ mod walk;
 
 pub use around::{Flags, Label};
 pub use kinds::{Place, Role};
+pub use known::{KnownTexts, TextFacts};
 pub use laws::{
     each_node_is_judged, exact_scopes_keep_early_errors, inside_is_judged_in_its_context,
     nodes_are_numbered, numbers_of_names_break_no_rule, own_scopes_break_no_rule,

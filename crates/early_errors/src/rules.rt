@@ -1,4 +1,4 @@
-ghost use Rattle.std.specs.Prelude.{◌≡◌, ◌||◌, ◌&&◌, not, IfOk, is_some, option_copied};
+ghost use Rattle.std.specs.Prelude.{◌≡◌, ◌||◌, ◌&&◌, not, IfOk, is_some};
 ghost use Rattle.bast_schema.specs.View.{data_of};
 ghost use Rattle.early_errors.specs.Repeats.{repeated, shared};
 ghost use Rattle.early_errors.specs.Declares.{lexical_names, var_names, parameter_names, has_simple, caught, block_names};
@@ -13,16 +13,12 @@ use crate::declares::{
     parameter_names, var_names,
 };
 use crate::kinds::Role;
+use crate::known::KnownTexts;
 use crate::repeats::{first_repeat, first_shared};
-use crate::strict::text_named;
-use crate::texts::{
-    has_identifier, has_member_name, has_quote, has_restricted, has_strict_word, has_template,
-};
 use bast_base::Memory;
 use bast_schema::Value;
 use scope_facts::{Rule, first_name_of};
 use std::alloc::Global;
-use string_table::StringTable;
 
 /// What a rule finds at a node.
 #[derive(Clone, Copy)]
@@ -175,18 +171,17 @@ fn must_differ(role: Role, flags: Flags, fields: &[Value]) -> bool
 }
 
 /// Whether strict code binds or assigns to a name that it does not.
-fn is_restricted_here(strings: &StringTable, role: Role, flags: Flags, name: Option<u32>) -> bool
-    ensures { result ≡ (is_assigned role flags.target && (flags.strict && has_text is_restricted (text_of strings.now name))) }
+fn is_restricted_here(texts: &KnownTexts<'_>, role: Role, flags: Flags, name: Option<u32>) -> bool
+    ensures { result ≡ (is_assigned role flags.target && (flags.strict && has_text is_restricted (text_of texts.now name))) }
 {
-    is_assigned_role(role, flags.target)
-        && (flags.strict && has_restricted(text_named(strings, name)))
+    is_assigned_role(role, flags.target) && (flags.strict && texts.facts(name).restricted)
 }
 
 /// Whether a word that strict code reserves stands in a node.
-fn is_strict_word_here(strings: &StringTable, role: Role, flags: Flags, name: Option<u32>) -> bool
-    ensures { result ≡ (is_word role && (flags.strict && has_text is_strict_word (text_of strings.now name))) }
+fn is_strict_word_here(texts: &KnownTexts<'_>, role: Role, flags: Flags, name: Option<u32>) -> bool
+    ensures { result ≡ (is_word role && (flags.strict && has_text is_strict_word (text_of texts.now name))) }
 {
-    is_word_role(role) && (flags.strict && has_strict_word(text_named(strings, name)))
+    is_word_role(role) && (flags.strict && texts.facts(name).strict_word)
 }
 
 /// Whether an identifier stands in a node.
@@ -275,22 +270,22 @@ fn is_target_role(role: Role) -> bool
 }
 
 /// Whether the name in a node is none for it.
-fn is_misnamed(role: Role, named: bool, text: Option<&str>) -> bool
-    ensures { result ≡ misnamed role named (option_copied text.entry) }
+fn is_misnamed(texts: &KnownTexts<'_>, role: Role, name: Option<u32>) -> bool
+    ensures { result ≡ misnamed role (is_some name) (text_of texts.now name) }
 {
     match role {
-        Role::Property => !has_member_name(text),
-        _ => is_word_role(role) && (named && !has_identifier(text)),
+        Role::Property => !texts.facts(name).member_name,
+        _ => is_word_role(role) && (name.is_some() && !texts.facts(name).identifier),
     }
 }
 
 /// Whether the raw text in a node can't be spelled.
-fn is_unspelled_role(role: Role, text: Option<&str>) -> bool
-    ensures { result ≡ is_unspelled role (option_copied text.entry) }
+fn is_unspelled_here(texts: &KnownTexts<'_>, role: Role, name: Option<u32>) -> bool
+    ensures { result ≡ is_unspelled role (text_of texts.now name) }
 {
     match role {
-        Role::Directive => !has_quote(text),
-        Role::Template => !has_template(text),
+        Role::Directive => !texts.facts(name).quoted,
+        Role::Template => !texts.facts(name).template,
         _ => false,
     }
 }
@@ -299,13 +294,13 @@ fn is_unspelled_role(role: Role, text: Option<&str>) -> bool
 pub(crate) fn saying(
     alloc: Global,
     rule: Rule,
-    strings: &StringTable,
+    texts: &KnownTexts<'_>,
     flags: Flags,
     labels: &[Label],
     role: Role,
     fields: &[Value],
 ) -> Result<Finding, Memory>
-    ensures { IfOk result (λ r. r ≡ says rule (reading_by strings.now (record { flags = flags; labels = labels.now }) role (data_of fields.now))) }
+    ensures { IfOk result (λ r. r ≡ says rule (reading_by texts.now (record { flags = flags; labels = labels.now }) role (data_of fields.now))) }
 {
     let name = first_name_of(fields);
     match rule {
@@ -317,9 +312,9 @@ pub(crate) fn saying(
             !has_simple_parameters(role, fields) && flags.own_strict,
             None,
         )),
-        Rule::E6 => Ok(where_so(is_restricted_here(strings, role, flags, name), name)),
+        Rule::E6 => Ok(where_so(is_restricted_here(texts, role, flags, name), name)),
         Rule::E7 => Ok(if_so(flags.strict, by_name(deleted_name(role, fields)))),
-        Rule::E8 => Ok(where_so(is_strict_word_here(strings, role, flags, name), name)),
+        Rule::E8 => Ok(where_so(is_strict_word_here(texts, role, flags, name), name)),
         Rule::E9 => Ok(if_so(flags.constant, by_name(bare_name(role, fields)))),
         Rule::E10 => Ok(where_so(is_return_role(role) && !flags.function, None)),
         Rule::E11 => Ok(where_so(
@@ -331,11 +326,8 @@ pub(crate) fn saying(
         Rule::E14 => caught_and_declared(alloc, role, fields),
         Rule::E15 => declared_by_head_and_body(alloc, role, fields),
         Rule::E16 => Ok(where_so(!is_target_role(role) && flags.target, None)),
-        Rule::E17 => Ok(where_so(
-            is_misnamed(role, name.is_some(), text_named(strings, name)),
-            name,
-        )),
-        Rule::E18 => Ok(where_so(is_unspelled_role(role, text_named(strings, name)), None)),
+        Rule::E17 => Ok(where_so(is_misnamed(texts, role, name), name)),
+        Rule::E18 => Ok(where_so(is_unspelled_here(texts, role, name), None)),
         _ => Ok(Finding::Holds),
     }
 }

@@ -1,11 +1,21 @@
 ghost use Rattle.std.specs.Prelude.{◌≡◌, map, option_copied};
 ghost use Rattle.std.specs.List.{list_any};
 ghost use Rattle.std.specs.Str.{bytes_eq};
-ghost use Rattle.early_errors.specs.Strict.{has_text};
+ghost use Rattle.early_errors.specs.Strict.{has_text, is_use_strict};
 ghost use Rattle.early_errors.specs.Rules.{is_restricted, is_strict_word, is_identifier, is_member_name, is_quoted};
 ghost use Rattle.js_tokens.specs.Spelled.{is_one_template};
 
 use js_tokens::{directive_quote, is_identifier_name, is_reserved, template_spelled};
+
+/// Whether a text makes code strict.
+pub(crate) fn says_use_strict(text: Option<&str>) -> bool
+    ensures { result ≡ has_text is_use_strict (option_copied text.entry) }
+{
+    match text {
+        Some(text) => text == "use strict",
+        None => false,
+    }
+}
 
 /// Whether a text is one that strict code does not bind or assign to.
 pub(crate) fn has_restricted(text: Option<&str>) -> bool

@@ -12,6 +12,7 @@ use crate::around::{
 };
 use crate::chosen::chosen_for;
 use crate::kinds::{Place, places_of, role_of};
+use crate::known::{KnownTexts, facts_of_all};
 use crate::rules::{Finding, saying};
 use bast_base::{Memory, NameId};
 use bast_schema::{Node, Value};
@@ -46,19 +47,19 @@ fn violation_of(number: u32, rule: Rule, finding: Finding) -> Option<Violation>
 /// What a rule finds at a node, as a violation.
 fn broken_by(
     alloc: Global,
-    strings: &StringTable,
+    texts: &KnownTexts<'_>,
     rule: Rule,
     node: &Node,
     flags: Flags,
     labels: &[Label],
     number: u32,
 ) -> Result<Option<Violation>, Memory>
-    ensures { IfOk result (λ r. r ≡ broken strings.now number (record { flags = flags; labels = labels.now }) node.now rule) }
+    ensures { IfOk result (λ r. r ≡ broken texts.now number (record { flags = flags; labels = labels.now }) node.now rule) }
 {
     let finding = saying(
         alloc,
         rule,
-        strings,
+        texts,
         flags,
         labels,
         role_of(node.kind()),
@@ -70,17 +71,17 @@ fn broken_by(
 /// The first violation of these rules at a node.
 fn first_of_rules(
     alloc: Global,
-    strings: &StringTable,
+    texts: &KnownTexts<'_>,
     order: &[Rule],
     node: &Node,
     flags: Flags,
     labels: &[Label],
     number: u32,
 ) -> Result<Option<Violation>, Memory>
-    ensures { IfOk result (λ r. r ≡ first (filter_map (broken strings.now number (record { flags = flags; labels = labels.now }) node.now) order.now)) }
+    ensures { IfOk result (λ r. r ≡ first (filter_map (broken texts.now number (record { flags = flags; labels = labels.now }) node.now) order.now)) }
 {
     for rule in order {
-        if let Some(violation) = broken_by(alloc, strings, *rule, node, flags, labels, number)? {
+        if let Some(violation) = broken_by(alloc, texts, *rule, node, flags, labels, number)? {
             return Ok(Some(violation));
         }
     }
@@ -90,43 +91,43 @@ fn first_of_rules(
 /// The first violation at a node.
 fn first_at(
     alloc: Global,
-    strings: &StringTable,
+    texts: &KnownTexts<'_>,
     node: &Node,
     flags: Flags,
     labels: &[Label],
     number: u32,
 ) -> Result<Option<Violation>, Memory>
-    ensures { IfOk result (λ r. r ≡ first (filter_map (broken strings.now number (record { flags = flags; labels = labels.now }) node.now) early_rules)) }
+    ensures { IfOk result (λ r. r ≡ first (filter_map (broken texts.now number (record { flags = flags; labels = labels.now }) node.now) early_rules)) }
 {
     let chosen = chosen_for(role_of(node.kind()));
-    first_of_rules(alloc, strings, chosen, node, flags, labels, number)
+    first_of_rules(alloc, texts, chosen, node, flags, labels, number)
 }
 
 /// The first violation at a node or below it.
 #[cycle(walk)]
 fn walk_node(
     alloc: Global,
-    strings: &StringTable,
+    texts: &KnownTexts<'_>,
     node: &Node,
     flags: Flags,
     labels: &[Label],
     number: u32,
 ) -> Result<Step, Memory>
     requires { number + nodes node.now < 2 ^ 32 }
-    ensures { IfOk result (λ r. r ≡ told (least strings.now (record { flags = flags; labels = labels.now }) number node.now) (number + nodes node.now)) }
+    ensures { IfOk result (λ r. r ≡ told (least texts.now (record { flags = flags; labels = labels.now }) number node.now) (number + nodes node.now)) }
 {
-    if let Some(violation) = first_at(alloc, strings, node, flags, labels, number)? {
+    if let Some(violation) = first_at(alloc, texts, node, flags, labels, number)? {
         return Ok(Step::Found(violation));
     }
     let role = role_of(node.kind());
     let fields = node.fields();
     let places = places_of(node.kind());
-    let flags = flags_of_parts(strings, role, fields, flags);
+    let flags = flags_of_parts(texts, role, fields, flags);
     if is_label_of(role) {
         let labels = more_labels(alloc, fields, labels)?;
-        walk_values(alloc, strings, fields, places, flags, &labels, number + 1)
+        walk_values(alloc, texts, fields, places, flags, &labels, number + 1)
     } else {
-        walk_values(alloc, strings, fields, places, flags, labels, number + 1)
+        walk_values(alloc, texts, fields, places, flags, labels, number + 1)
     }
 }
 
@@ -134,7 +135,7 @@ fn walk_node(
 #[cycle(walk)]
 fn walk_values(
     alloc: Global,
-    strings: &StringTable,
+    texts: &KnownTexts<'_>,
     values: &[Value],
     places: &[Place],
     flags: Flags,
@@ -142,7 +143,7 @@ fn walk_values(
     number: u32,
 ) -> Result<Step, Memory>
     requires { number + nodes_in (data_of values.now) < 2 ^ 32 }
-    ensures { IfOk result (λ r. r ≡ told (least_in strings.now places.now (record { flags = flags; labels = labels.now }) number (data_of values.now)) (number + nodes_in (data_of values.now))) }
+    ensures { IfOk result (λ r. r ≡ told (least_in texts.now places.now (record { flags = flags; labels = labels.now }) number (data_of values.now)) (number + nodes_in (data_of values.now))) }
 {
     let mut next = number;
     let mut left = places;
@@ -151,7 +152,7 @@ fn walk_values(
         left = rest_of_places(left);
         match walk_value(
             alloc,
-            strings,
+            texts,
             value,
             flags_of_place(place, flags),
             labels_of_place(place, labels),
@@ -168,20 +169,20 @@ fn walk_values(
 #[cycle(walk)]
 fn walk_value(
     alloc: Global,
-    strings: &StringTable,
+    texts: &KnownTexts<'_>,
     value: &Value,
     flags: Flags,
     labels: &[Label],
     number: u32,
 ) -> Result<Step, Memory>
     requires { number + nodes_at (datum value.now) < 2 ^ 32 }
-    ensures { IfOk result (λ r. r ≡ told (least_at strings.now (record { flags = flags; labels = labels.now }) number (datum value.now)) (number + nodes_at (datum value.now))) }
+    ensures { IfOk result (λ r. r ≡ told (least_at texts.now (record { flags = flags; labels = labels.now }) number (datum value.now)) (number + nodes_at (datum value.now))) }
 {
     match value {
-        Value::Node(node) => walk_node(alloc, strings, node, flags, labels, number),
+        Value::Node(node) => walk_node(alloc, texts, node, flags, labels, number),
         Value::List(values) => walk_values(
             alloc,
-            strings,
+            texts,
             values.as_slice(),
             &[],
             flags,
@@ -192,14 +193,31 @@ fn walk_value(
     }
 }
 
+/// The first violation of a whole tree.
+fn first_violation(
+    alloc: Global,
+    tree: &Node,
+    ctx: &Ctx,
+    texts: &KnownTexts<'_>,
+) -> Result<Option<Violation>, Memory>
+    requires { size tree.now ≤ 2 ^ 30 }
+    ensures { IfOk result (λ r. r ≡ first (early texts.now ctx.now tree.now)) }
+{
+    match walk_node(alloc, texts, tree, start_flags(ctx), &[], 0)? {
+        Step::Found(violation) => Ok(Some(violation)),
+        Step::Next(_) => Ok(None),
+    }
+}
+
 /// The first early error of a script, or of the contents of a function in the context that the function gives them.
 ///
 /// The nodes are numbered in preorder from 0, absent nodes and windows not counted. At a node the rules go in order, and
 /// nodes by number; names are compared by their numbers in the table. A name that the table has no text for is no
 /// identifier, and a raw text that it has none for can't be spelled. A window is not looked into.
 ///
-/// The time is about linear in the size of the tree, but that the statements of a block with lexical names, of a catch
-/// clause and of a loop with lexical names are looked through once more for each of these that stands around.
+/// The time is about linear in the sizes of the tree and the table: each text is looked through once, wherever its name stands.
+/// But the statements of a block with lexical names, of a catch clause and of a loop with lexical names are looked through once
+/// more for each of these that stands around.
 pub fn first_early(
     alloc: Global,
     tree: &Node,
@@ -209,8 +227,7 @@ pub fn first_early(
     requires { size tree.now ≤ 2 ^ 30 }
     ensures { IfOk result (λ r. r ≡ first (early strings.now ctx.now tree.now)) }
 {
-    match walk_node(alloc, strings, tree, start_flags(ctx), &[], 0)? {
-        Step::Found(violation) => Ok(Some(violation)),
-        Step::Next(_) => Ok(None),
-    }
+    let facts = facts_of_all(alloc, strings)?;
+    let texts = KnownTexts::of(strings, &facts);
+    first_violation(alloc, tree, ctx, &texts)
 }

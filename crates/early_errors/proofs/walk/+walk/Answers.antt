@@ -11,22 +11,22 @@ pub walk_node-returns-in_ok-labels : goal.walk_node-returns-in_ok-labels
 walk_node-returns-in_ok-labels t c =
     let r : c.role_of-role.result ≡ role (kind_of c.args.node.now) = c.role_of-role.ensures ∙ ap role c.kind.ensures.kind
     in let ds = data_of c.fields-fields.result.now
-    in rw (sym (node_more c.args.strings.now (record { flags = c.args.flags; labels = c.args.labels.now }) c.args.number c.args.node.now (kind_of c.args.node.now) ds c.flags_of_parts-flags.result c.deref.result.now c.places_of-places.result.now c.in_ok-violation.field-0
+    in rw (sym (node_more c.args.texts.now (record { flags = c.args.flags; labels = c.args.labels.now }) c.args.number c.args.node.now (kind_of c.args.node.now) ds c.flags_of_parts-flags.result c.deref.result.now c.places_of-places.result.now c.in_ok-violation.field-0
     c.fields-fields.ensures.tree
     c.in_default.is c.in_ok-violation.ensures
     (c.places_of-places.ensures ∙ ap places c.kind-2.ensures.kind)
-    (c.flags_of_parts-flags.ensures ∙ ap (λ x. flags_in c.args.strings.now x ds c.args.flags) r)
+    (c.flags_of_parts-flags.ensures ∙ ap (λ x. flags_in c.args.texts.now x ds c.args.flags) r)
     (c.deref.ensures.value ∙ c.in_ok-labels.ensures ∙ labels_new (role (kind_of c.args.node.now)) ds c.args.labels.now (sym (ap is_labelled r) ∙ sym c.is_label_of.ensures ∙ c.if-is_label_of.true)))) c.walk_values.ensures
 
 pub walk_node-returns-else-is_label_of : goal.walk_node-returns-else-is_label_of
 walk_node-returns-else-is_label_of t c =
     let r : c.role_of-role.result ≡ role (kind_of c.args.node.now) = c.role_of-role.ensures ∙ ap role c.kind.ensures.kind
     in let ds = data_of c.fields-fields.result.now
-    in rw (sym (node_more c.args.strings.now (record { flags = c.args.flags; labels = c.args.labels.now }) c.args.number c.args.node.now (kind_of c.args.node.now) ds c.flags_of_parts-flags.result c.args.labels.now c.places_of-places.result.now c.in_ok-violation.field-0
+    in rw (sym (node_more c.args.texts.now (record { flags = c.args.flags; labels = c.args.labels.now }) c.args.number c.args.node.now (kind_of c.args.node.now) ds c.flags_of_parts-flags.result c.args.labels.now c.places_of-places.result.now c.in_ok-violation.field-0
     c.fields-fields.ensures.tree
     c.in_default.is c.in_ok-violation.ensures
     (c.places_of-places.ensures ∙ ap places c.kind-2.ensures.kind)
-    (c.flags_of_parts-flags.ensures ∙ ap (λ x. flags_in c.args.strings.now x ds c.args.flags) r)
+    (c.flags_of_parts-flags.ensures ∙ ap (λ x. flags_in c.args.texts.now x ds c.args.flags) r)
     (labels_same (role (kind_of c.args.node.now)) ds c.args.labels.now (sym (ap is_labelled r) ∙ sym c.is_label_of.ensures ∙ c.if-is_label_of.false)))) c.walk_values-else-is_label_of.ensures
 
 pub walk_values-walk_value-requires : goal.walk_values-walk_value-requires

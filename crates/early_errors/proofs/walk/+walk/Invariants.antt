@@ -14,4 +14,4 @@ abbrev pub decreases-walk_value : goal.decreases-walk_value
 decreases-walk_value l = weight_at (datum l.value.now)
 
 abbrev pub invariant-walk_values-loop-value : goal.invariant-walk_values-loop-value
-invariant-walk_values-loop-value l = Walked l.strings (record { flags = l.flags; labels = l.labels }) l.left l.next (data_of (drop l.value-index l.values)) l.places l.number (data_of l.values)
+invariant-walk_values-loop-value l = Walked l.texts (record { flags = l.flags; labels = l.labels }) l.left l.next (data_of (drop l.value-index l.values)) l.places l.number (data_of l.values)

@@ -1,6 +1,6 @@
 use Rattle.std.proofs.Common.{arith}
 use Rattle.early_errors.proofs.Firsts.{first_found, first_none, nodes_size}
-use Rattle.early_errors.proofs.walk.first_early.Goals as goal
+use Rattle.early_errors.proofs.walk.first_violation.Goals as goal
 
 pub returns-in-Found : goal.returns-in-Found
 returns-in-Found c = first_found _ c.args.ctx.now c.args.tree.now c.start_flags.result _ c.in_ok-violation.field-0 c.in-Found.violation c.start_flags.ensures c.in_ok-violation.ensures c.in-Found.is
