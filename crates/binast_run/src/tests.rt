@@ -291,7 +291,7 @@ fn encode_in_chunks(
 #[test]
 fn tells_a_fault_of_each_read(rt: HostRuntime) -> Result<(), Fail> {
     let alloc = rt.alloc();
-    let cases: [(usize, u32); 3] = [(1, 8), (3, 4), (100, 2)];
+    let cases: [(usize, u32); 4] = [(1, 8), (3, 4), (7, 2), (100, 2)];
     for (chunk, calls) in cases {
         for call in 0..=calls {
             let fails = vec![in alloc; call]?;
@@ -344,24 +344,41 @@ fn keeps_the_front_that_a_write_of_ten_bytes_passed(rt: HostRuntime) -> Result<(
     Ok(())
 }
 
+// A call that is never made, so that nothing fails.
+const NEVER: u32 = 1_000;
+
+// Words, an input, a read and a write that fail, and the status and the line that come of these.
+type FaultCase = (&'static str, &'static str, u32, u32, u8, &'static str);
+
 // Notes that fail change no status, and keep what they took before: five bytes a call.
 #[test]
 fn keeps_its_status_where_notes_fail(rt: HostRuntime) -> Result<(), Fail> {
     let alloc = rt.alloc();
-    let cases: [(&str, u8, &str); 4] = [
-        ("encode", 2, "words not understood\n"),
-        ("encode eager", 3, "reading failed\n"),
-        ("check", 3, "reading failed\n"),
-        ("decode", 3, "reading failed\n"),
+    let cases: [FaultCase; 7] = [
+        ("encode", "1;", NEVER, NEVER, 2, "words not understood\n"),
+        (
+            "encode eager",
+            "(",
+            NEVER,
+            NEVER,
+            1,
+            "source: Syntax at 1\n",
+        ),
+        ("check", "1;", NEVER, NEVER, 1, "file: BadMagic at 0\n"),
+        ("encode eager", "1;", 1, NEVER, 3, "reading failed\n"),
+        ("check", "1;", 1, NEVER, 3, "reading failed\n"),
+        ("decode", "1;", 1, NEVER, 3, "reading failed\n"),
+        ("encode eager", "1;", NEVER, 0, 4, "writing failed\n"),
     ];
-    for (words, status, line) in cases {
+    for (words, input, read, write, status, line) in cases {
         for call in 0..6u32 {
             let mut list = Vec::new(alloc);
             for word in words.split_ascii_whitespace() {
                 list.push(Chars::of(String::from_str(alloc, word)?))?;
             }
-            let mut source = MemSource::new(b"1;".to_vec(alloc)?, 1, vec![in alloc; 1]?);
-            let mut sink = MemSink::new(vec![in alloc; 0; 400]?, 10, Vec::new(alloc));
+            let input = input.as_bytes().to_vec(alloc)?;
+            let mut source = MemSource::new(input, 1, vec![in alloc; read]?);
+            let mut sink = MemSink::new(vec![in alloc; 0; 400]?, 10, vec![in alloc; write]?);
             let mut notes = MemSink::new(vec![in alloc; 0; 100]?, 5, vec![in alloc; call]?);
             let mut steps = Steps::many();
             let ended = run(
