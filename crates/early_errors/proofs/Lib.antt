@@ -1,6 +1,5 @@
 pub mod Asked
 pub mod BareEarly
-pub mod Beyond
 pub mod Choosing
 pub mod Firsts
 pub mod Inside
