@@ -1,0 +1,4 @@
+pub mod Along
+pub mod EarlyOrder
+pub mod Least
+pub mod UntrueOrder
