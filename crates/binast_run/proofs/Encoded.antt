@@ -9,7 +9,7 @@ use Rattle.bast_schema.specs.Eager.{is_eager, is_eager_at, are_eager}
 use Rattle.bast_schema.specs.Fields.{has_lazy}
 use Rattle.bast_schema.specs.NamesHold.{names_hold, names_hold_at, names_hold_in}
 use Rattle.bast_schema.specs.Tree.{Tree, branch, Datum, child, listed, Data, none, more, typed}
-use Rattle.bast_schema.proofs.Both.{and_first, and_second}
+use Rattle.bast_schema.proofs.Both.{and_first, and_second, both}
 use Rattle.container.specs.Atoms.{Atom, atoms}
 use Rattle.container.specs.InFile.{InFile, has_atom, is_unnested}
 use Rattle.container.specs.IsContainer.{IsFileOf, tables}
@@ -45,20 +45,19 @@ use Rattle.tree_decoder.proofs.OneScript.{one_script}
 use Rattle.tree_encoder.specs.File.{texts_held}
 use Rattle.binast_run.specs.Answer.{Answer, output, refusal, most_bytes}
 use Rattle.binast_run.specs.Judging.{first_violation}
-use Rattle.binast_run.specs.LazyKinds.{is_eager_kind, first_lazy, kinds_of, kinds_at, kinds_in}
+use Rattle.tree_decoder.specs.LazyKinds.{is_eager_kind, first_lazy, kinds_of, kinds_at, kinds_in}
 use Rattle.binast_run.specs.Laws.{IsExactTreeOf, IsOutputOfTree}
 use Rattle.binast_run.specs.Lines.{large_file_line}
-use Rattle.binast_run.specs.Reading.{first_fault, IsFileOfScript}
+use Rattle.tree_decoder.specs.Reading.{first_fault, IsFileOfScript}
 use Rattle.binast_run.specs.Result.{AnswersFile, faulty, read, judged}
 use Rattle.binast_run.specs.SourceLines.{source_line, violation_text}
 use Rattle.binast_run.specs.Sources.{AnswersSource, no_text, no_tree, has_tree, script, source_file, early_answer}
 use Rattle.binast_run.proofs.EagerKept.{exact_eager}
-use Rattle.binast_run.proofs.EagerWhole.{eager_is_whole}
-use Rattle.binast_run.proofs.InGrammar.{in_grammar-accepted}
-use Rattle.binast_run.proofs.LazyAtoms.{eager_read, joined, none_other}
+use Rattle.tree_decoder.proofs.EagerWhole.{eager_is_whole}
+use Rattle.tree_decoder.proofs.InGrammar.{in_grammar-accepted}
+use Rattle.tree_decoder.proofs.LazyAtoms.{eager_read, joined, none_other}
 use Rattle.binast_run.proofs.Matching.{matched, matched_apart, is_matched_text, matched_texts, matched_there, matched_eval}
-use Rattle.binast_run.proofs.NamedTrees.{both}
-use Rattle.binast_run.proofs.OneTree.{file_of}
+use Rattle.tree_decoder.proofs.OneFile.{file_of}
 use Rattle.binast_run.proofs.RenamedSpelled.{SameTexts, spelled_renamed, atoms_renamed, stands_renamed, eager_folded, whole_windows, whole_renamed, depth_renamed, matched_tree}
 use Rattle.binast_run.proofs.SourceFacts.{SourceFacts, source_facts}
 use Rattle.js_parser.specs.Source.{IsSource}

@@ -2,7 +2,7 @@
 use Rattle.std.proofs.Common.{◌≡◌, ℕ, zero, suc, Bool, true, false, ◌&&◌, List, [], ◌∷◌, Option, Some, None, is_some, get_or, refl}
 use Rattle.std.specs.Prelude.{slice_get}
 use Rattle.bast_schema.specs.Tree.{Tree, branch, Datum, child, absent, listed, flag, index, whole, name, no_name, choice, window, Data, none, more}
-use Rattle.bast_schema.proofs.Both.{and_first, and_second}
+use Rattle.bast_schema.proofs.Both.{and_first, and_second, both}
 use Rattle.js_printer.specs.Names.{is_named, is_named_at, is_named_in}
 use Rattle.tree_decoder.specs.Found.{is_text, stands, stands_at, all_stand}
 use Rattle.tree_decoder.specs.Range.{Range}
@@ -12,11 +12,6 @@ text_there [] n is = cc
 text_there (Some text ∷ texts) zero is = refl
 text_there (None ∷ texts) zero is = cc
 text_there (entry ∷ texts) (suc n) is = text_there texts n is
-
-pub both : (a b : Bool) → a ≡ true → b ≡ true → (a && b) ≡ true
-both true true e f = refl
-both true false e f = cc
-both false b e f = cc
 
 mutual
   pub named_tree : (r : Range) (t : Tree) → stands r t ≡ true → is_named r.tables.texts t ≡ true

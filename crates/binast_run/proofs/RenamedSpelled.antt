@@ -13,7 +13,7 @@ use Rattle.bast_schema.specs.Held.{Held, text_of}
 use Rattle.bast_schema.specs.Kinds.{counted}
 use Rattle.bast_schema.specs.NamesHold.{names_hold, names_hold_at, names_hold_in}
 use Rattle.bast_schema.specs.Tree.{Tree, branch, Datum, child, listed, name, window, Data, none, more, typed, fits, fit, items_fit, item_type, count, depth, depth_at, depth_in}
-use Rattle.bast_schema.proofs.Both.{and_first, and_second}
+use Rattle.bast_schema.proofs.Both.{and_first, and_second, both}
 use Rattle.container.specs.Atoms as atom
 use Rattle.container.specs.Atoms.{Atom, atoms, atoms_of, atoms_of_fields, atoms_of_items}
 use Rattle.container.specs.InFile.{has_atom}
@@ -29,9 +29,8 @@ use Rattle.tree_decoder.specs.Range.{Range}
 use Rattle.tree_decoder.specs.Windows.{windows, windows_at, windows_in}
 use Rattle.tree_decoder.proofs.Accepts.{first_atom, other_atoms, front_atoms, back_atoms}
 use Rattle.tree_encoder.specs.File.{texts_held}
-use Rattle.binast_run.proofs.EagerWhole.{child_fits, listed_fits}
+use Rattle.tree_decoder.proofs.EagerWhole.{child_fits, listed_fits}
 use Rattle.binast_run.proofs.Matching.{is_matched_text}
-use Rattle.binast_run.proofs.NamedTrees.{both}
 
 -- of the names with a property, each stands for the same text
 abbrev pub SameTexts : (ℕ → ℕ) → (ℕ → Bool) → Held → Held → Type 0

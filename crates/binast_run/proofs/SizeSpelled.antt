@@ -17,7 +17,7 @@ use Rattle.container.specs.Tables.{Tables, kind_place, text_place}
 use Rattle.bast_schema.specs.declared.kind.Kind.TheVariants.{Null}
 use Rattle.std.specs.Int.{w64, to_be_bytes}
 use Rattle.var_numbers.specs.Pattern.{pattern}
-use Rattle.binast_run.proofs.EagerWhole.{child_fits, listed_fits}
+use Rattle.tree_decoder.proofs.EagerWhole.{child_fits, listed_fits}
 
 -- a frame only adds bytes
 framed_more : (f : FieldType) (bytes : List ℕ) → length bytes ≤ length (framed f bytes)

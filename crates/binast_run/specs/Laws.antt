@@ -8,8 +8,8 @@ use Rattle.container.specs.declared.layout.Layout.{Layout}
 use Rattle.container.specs.Atoms.{atoms}
 use Rattle.container.specs.InFile.{InFile}
 use Rattle.binast_run.specs.declared.command.Command.{Command}
-use Rattle.binast_run.specs.LazyKinds.{first_lazy}
-use Rattle.binast_run.specs.Reading.{first_fault, IsFileOfScript}
+use Rattle.tree_decoder.specs.LazyKinds.{first_lazy}
+use Rattle.tree_decoder.specs.Reading.{first_fault, IsFileOfScript}
 use Rattle.binast_run.specs.Answer.{Answer, output}
 use Rattle.binast_run.specs.Result.{AnswersFile, AnswersInput}
 use Rattle.binast_run.specs.Sources.{AnswersSource}
@@ -21,33 +21,9 @@ use Rattle.tree_decoder.specs.Outer.{tree_range}
 use Rattle.tree_decoder.specs.Range.{held}
 use Rattle.tree_encoder.specs.File.{texts_held}
 
--- a file that is read as a tree without windows is in the grammar, and spells that tree
-abbrev pub FilesThatAreReadAreInGrammar : Type 0
-FilesThatAreReadAreInGrammar =
-    (bytes : List ℕ) (l : Layout) (t : Tree) → length bytes < 2 ^ 32 → IsFileOfScript bytes l t → IsTrue (is_whole t)
-    → InFile bytes (record { texts = l.strings; tape = bytes }) t
-
--- a file in the grammar, of bytes and of a length that are read, has no fault
-abbrev pub FilesInGrammarHaveNoFault : Type 0
-FilesInGrammarHaveNoFault =
-    (bytes : List ℕ) (h : Held) (t : Tree) → length bytes ≤ 8388608 → All (λ byte. byte < 256) bytes → InFile bytes h t → first_fault bytes ≡ None
-
--- A file is that of one tree: the trees that it spells have the same kinds, counts, numbers and texts in order.
-abbrev pub FilesHaveOneTree : Type 0
-FilesHaveOneTree = (bytes : List ℕ) (h g : Held) (t u : Tree) → InFile bytes h t → InFile bytes g u → atoms h t ≡ atoms g u
-
--- a file in the grammar whose tree has the first kinds alone is read as such a tree
-abbrev pub FilesWithoutLazyKindsAreReadSo : Type 0
-FilesWithoutLazyKindsAreReadSo =
-    (bytes : List ℕ) (h : Held) (t : Tree) (l : Layout) (u : Tree) → InFile bytes h t → first_lazy t ≡ None → IsFileOfScript bytes l u → first_lazy u ≡ None
-
 -- an input has one answer of each command
 abbrev pub InputsHaveOneAnswer : Type 0
 InputsHaveOneAnswer = (command : Command) (input : List ℕ) (a b : Answer) → AnswersInput command input a → AnswersInput command input b → a ≡ b
-
--- a file is read as one tree, over one layout
-abbrev pub FilesAreReadAsOneTree : Type 0
-FilesAreReadAsOneTree = (bytes : List ℕ) (l m : Layout) (t u : Tree) → IsFileOfScript bytes l t → IsFileOfScript bytes m u → (l ≡ m) × (t ≡ u)
 
 -- The tree that a file is read as is the exact tree of a source's tree, with the file's numbers for its names: it has the
 -- kinds, counts, numbers and texts of the exact tree over the source's own texts.

@@ -1,12 +1,9 @@
 pub mod Answer
-pub mod FileLines
-pub mod Judging
+pub mod FileAnswers
 pub mod Laws
-pub mod LazyKinds
 pub mod Lines
 pub mod Outcome
 pub mod Output
-pub mod Reading
 pub mod Result
 pub mod SourceLines
 pub mod Sources

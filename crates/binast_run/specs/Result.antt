@@ -1,48 +1,24 @@
 -- What the program answers to words and an input.
 use Rattle.std.specs.Prelude.{◌≡◌, ℕ, ◌≤◌, List, [], length, Option, Some, None, IfSome, IsTrue, is_some, ◌⊎◌}
 use Rattle.std.specs.Io.KnownBytes.{Appends}
-use Rattle.bast_base.specs.declared.errors.FormatFault.{FormatFault}
-use Rattle.bast_schema.specs.Tree.{Tree}
-use Rattle.container.specs.declared.layout.Layout.{Layout}
 use Rattle.js_printer.specs.Listing.{listed}
-use Rattle.scope_facts.specs.declared.context.Violation.{Violation}
 use Rattle.bast_base.specs.Causes.{Rose}
 use Rattle.binast_run.specs.declared.command.Command.{Command}
 use Rattle.binast_run.specs.declared.command.Command.TheVariants.{EncodeEager, Decode, Check}
 use Rattle.binast_run.specs.declared.status.Fault.TheVariants.{BadWords}
 use Rattle.binast_run.specs.Answer.{Answer, most_bytes, output, refusal}
-use Rattle.binast_run.specs.LazyKinds.{first_lazy}
-use Rattle.binast_run.specs.Judging.{first_violation, violation_line}
-use Rattle.binast_run.specs.Lines.{accepted_line, fault_line, not_yet_line}
+use Rattle.binast_run.specs.FileAnswers.{AnswersFile}
+use Rattle.binast_run.specs.Lines.{accepted_line}
 use Rattle.binast_run.specs.Output.{AppendsFront}
-use Rattle.binast_run.specs.Reading.{first_fault, IsFileOfScript}
 use Rattle.binast_run.specs.Sources.{AnswersSource}
 use Rattle.binast_run.specs.Status.{line_of}
 use Rattle.binast_run.specs.Words.{command_in}
 
--- an output, but where a node has a lazy kind, and where a rule does not hold
-abbrev pub unless_untrue : List (Option (List ℕ)) → Option Violation → List ℕ → Answer
-unless_untrue texts (Some v) text = refusal (violation_line texts v)
-unless_untrue texts None text = output text
-
-abbrev pub unless_lazy : Option ℕ → Answer → Answer
-unless_lazy (Some node) judged = refusal (not_yet_line node)
-unless_lazy None judged = judged
-
--- what a tree that was read comes to
-abbrev pub judged : List (Option (List ℕ)) → Tree → List ℕ → Answer
-judged texts t text = unless_lazy (first_lazy t) (unless_untrue texts (first_violation texts t) text)
-
--- The answer to a file, where `text` makes the output of its tree: the line of its first fault, or what its tree gives.
-pub data AnswersFile (bytes : List ℕ) (text : Layout → Tree → List ℕ) : Answer → Type 0 where
-  faulty : (f : FormatFault) → first_fault bytes ≡ Some f → AnswersFile bytes text (refusal (fault_line f))
-  read : (l : Layout) (t : Tree) → IsFileOfScript bytes l t → AnswersFile bytes text (judged l.strings t (text l t))
-
 -- the answer of a command to its input
 abbrev pub AnswersInput : Command → List ℕ → Answer → Type 0
 AnswersInput EncodeEager input a = AnswersSource input a
-AnswersInput Decode input a = AnswersFile input (λ l t. listed l.strings t) a
-AnswersInput Check input a = AnswersFile input (λ l t. accepted_line (length input)) a
+AnswersInput Decode input a = AnswersFile input listed a
+AnswersInput Check input a = AnswersFile input (λ texts t. accepted_line (length input)) a
 
 -- the answer of words, which is one without a command too
 abbrev pub AnswersWords : Option Command → List ℕ → Answer → Type 0

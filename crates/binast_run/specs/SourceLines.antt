@@ -1,12 +1,10 @@
 -- The lines that refuse a source.
 use Rattle.std.specs.Prelude.{ℕ, List, [], ◌++◌, codes, decimal, Option, Some, None}
-use Rattle.bast_base.specs.declared.errors.NameId.{NameId}
 use Rattle.binast_run.specs.Status.{line}
 use Rattle.js_machine.specs.declared.stops.Left.{Left}
 use Rattle.js_machine.specs.declared.stops.Left.TheVariants as left
 use Rattle.js_parser.specs.declared.source.SourceFault.{SourceFault}
 use Rattle.js_parser.specs.declared.source.SourceFault.TheVariants as source
-use Rattle.js_printer.specs.Names.{name_text}
 use Rattle.js_printer.specs.StringForm.{string_form}
 use Rattle.js_tokens.specs.declared.kinds.TokenFault.{TokenFault}
 use Rattle.js_tokens.specs.declared.kinds.TokenFault.TheVariants as token
@@ -87,10 +85,10 @@ rule_text rules.A4 = codes "A4"
 rule_text rules.A5 = codes "A5"
 
 -- a name as a string literal, where there is one
-abbrev pub shown_name : List (Option (List ℕ)) → Option NameId → List ℕ
-shown_name texts None = []
-shown_name texts (Some n) = codes " " ++ string_form (name_text texts n.0)
+abbrev pub shown_name : Option (List ℕ) → List ℕ
+shown_name None = []
+shown_name (Some text) = codes " " ++ string_form text
 
--- a rule that does not hold at a node, over the texts of the tree's names
-abbrev pub violation_text : List (Option (List ℕ)) → Violation → List ℕ
-violation_text texts v = rule_text v.rule ++ codes " at node " ++ decimal v.node ++ shown_name texts v.name
+-- a rule that does not hold at a node, with the text of the violation's name
+abbrev pub violation_text : Violation → Option (List ℕ) → List ℕ
+violation_text v name = rule_text v.rule ++ codes " at node " ++ decimal v.node ++ shown_name name

@@ -1,5 +1,5 @@
 -- What the program answers to a source.
-use Rattle.std.specs.Prelude.{◌≡◌, ℕ, false, nat_le, List, [], length, Option, Some, None, Ok, if◌then◌else◌}
+use Rattle.std.specs.Prelude.{◌≡◌, ℕ, nat_le, List, [], length, Option, Some, None, Ok, if◌then◌else◌}
 use Rattle.std.specs.Str.{IsUtf8}
 use Rattle.std.specs.Str.Lossy.{utf8_valid_len}
 use Rattle.bast_schema.specs.Tree.{Tree}
@@ -11,14 +11,10 @@ use Rattle.early_errors.specs.Early.{early, first}
 use Rattle.js_parser.specs.Source.{IsRefused, IsSource}
 use Rattle.js_parser.specs.declared.source.SourceFault.{SourceFault}
 use Rattle.js_parser.specs.declared.source.SourceFault.TheVariants as source
-use Rattle.scope_facts.specs.declared.context.Ctx.{Ctx}
 use Rattle.scope_facts.specs.declared.context.Violation.{Violation}
 use Rattle.scope_facts.specs.Exact.{exact}
 use Rattle.tree_encoder.specs.File.{file, texts_held}
-
--- what is around a script: nothing
-abbrev pub script : Ctx
-script = record { strict = false; own_strict = false; unique = false; function = false; scopes = [] }
+use Rattle.violations.specs.Violations.{name_in, script}
 
 -- the file of the tree with exact scopes
 abbrev pub source_file : List (Option (List ℕ)) → Tree → List ℕ
@@ -30,7 +26,7 @@ file_answer bytes = if nat_le (length bytes) most_bytes then output bytes else r
 
 -- the first early error of a tree, or else its file
 abbrev pub early_answer : List (Option (List ℕ)) → Tree → Option Violation → Answer
-early_answer texts t (Some v) = refusal (source_line (violation_text texts v))
+early_answer texts t (Some v) = refusal (source_line (violation_text v (name_in texts v)))
 early_answer texts t None = file_answer (source_file texts t)
 
 abbrev pub tree_answer : List (Option (List ℕ)) → Tree → Answer

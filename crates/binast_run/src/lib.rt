@@ -7,9 +7,7 @@ mod file_cases;
 mod files;
 mod gate;
 mod in_memory;
-mod judging;
 mod laws;
-mod lazy_kinds;
 mod lines;
 mod outcome;
 mod output;
@@ -25,8 +23,6 @@ mod tests;
 pub use gate::{Gate, Idle};
 pub use in_memory::run_in_memory;
 pub use laws::{
-    encoded_files_are_accepted, encoded_files_hold_their_tree, files_are_read_as_one_tree,
-    files_have_one_tree, files_in_grammar_have_no_fault, files_that_are_read_are_in_grammar,
-    files_without_lazy_kinds_are_read_so, inputs_have_one_answer,
+    encoded_files_are_accepted, encoded_files_hold_their_tree, inputs_have_one_answer,
 };
 pub use program::run;

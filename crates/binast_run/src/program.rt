@@ -1,6 +1,6 @@
 ghost use Rattle.std.specs.Prelude.{◌≡◌, ◌≤◌, ◌+◌, length, sum, nat_eq, is_none, IfSome};
 ghost use Rattle.bast_base.specs.Causes.{Rose};
-ghost use Rattle.bast_base.specs.Source.{TakesAtMost, TakesMore};
+ghost use Rattle.bast_base.specs.Source.{TakesAtMost, TakesOneMore};
 ghost use Rattle.binast_run.specs.Result.{looked, FitsIn, IsComplete, Notes, Outputs, OutputsFront, Refuses};
 ghost use Rattle.binast_run.specs.Status.{code, line_of};
 ghost use Rattle.binast_run.specs.Words.{command_in};
@@ -32,7 +32,7 @@ pub fn run<L: Send + Sync, S: Source<L>, K: Sink, N: Sink, G: Gate>(
 
     // An answer is that of the words and the whole input.
     ensures done { result ≡ 0 → Outputs words.now (S.left source.old) (S.left source.new) (K.written sink.old) (K.written sink.new)
-        × (N.written notes.new ≡ N.written notes.old) }
+        × (notes.new ≡ notes.old) }
     ensures refused { result ≡ 1 → Refuses words.now (S.left source.old) (S.left source.new) (N.written notes.old) (N.written notes.new) (N.faults notes.old) (N.faults notes.new)
         × (K.written sink.new ≡ K.written sink.old) }
 
@@ -45,7 +45,7 @@ pub fn run<L: Send + Sync, S: Source<L>, K: Sink, N: Sink, G: Gate>(
         × TakesAtMost (S.left source.old) (S.left source.new) 8388608 }
     ensures write_fault { result ≡ 4 → OutputsFront words.now (S.left source.old) (S.left source.new) (K.written sink.old) (K.written sink.new)
         × Rose (K.faults sink.old) (K.faults sink.new) }
-    ensures too_large { result ≡ 6 → TakesMore (S.left source.old) (S.left source.new) 8388608 }
+    ensures too_large { result ≡ 6 → TakesOneMore (S.left source.old) (S.left source.new) 8388608 }
     ensures top { result ≤ 6 }
 
     // Otherwise the sink is unchanged, and notes has the status's line.

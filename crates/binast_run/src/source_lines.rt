@@ -1,10 +1,11 @@
-// The lines that refuse a source.
-ghost use Rattle.std.specs.Prelude.{◌≡◌, ◌++◌, codes, string_bytes, IfOk, OnOk};
+// The lines that refuse a source, and the one that tells a violation in a file.
+ghost use Rattle.std.specs.Prelude.{◌≡◌, ◌++◌, codes, option_copied, string_bytes, IfOk, OnOk};
 ghost use Rattle.binast_run.specs.SourceLines.{fault_text, left_text, not_utf8_text, placed, rule_text, shown_name, source_line as of_source, token_text, violation_text};
-ghost use Rattle.js_printer.specs.Names.{name_text};
+ghost use Rattle.binast_run.specs.FileAnswers.{file_violation_line as of_file};
+ghost use Rattle.violations.specs.Violations.{name_in};
 
 use crate::lines::{put, put_number};
-use bast_base::{Memory, NameId};
+use bast_base::{Chars, Memory};
 use js_machine::Left;
 use js_parser::SourceFault;
 use js_printer::string_form;
@@ -12,6 +13,7 @@ use js_tokens::TokenFault;
 use scope_facts::{Rule, Violation};
 use std::alloc::Global;
 use string_table::StringTable;
+use violations::name_of;
 
 // The line of a text that is no UTF-8, of which so many bytes are.
 pub(crate) fn not_utf8_line(alloc: Global, at: u32) -> Result<String, Memory>
@@ -33,33 +35,56 @@ pub(crate) fn fault_line(alloc: Global, fault: SourceFault) -> Result<String, Me
     Ok(text)
 }
 
-// The line of a rule that does not hold at a node of the tree.
+// The line of a rule that does not hold at a node of a source's tree.
 pub(crate) fn violation_line(
     alloc: Global,
     violation: Violation,
     strings: &StringTable,
 ) -> Result<String, Memory>
-    ensures { IfOk result (λ text. string_bytes text ≡ of_source (violation_text strings.now violation)) }
+    ensures { IfOk result (λ text. string_bytes text ≡ of_source (violation_text violation (name_in strings.now violation))) }
 {
     let mut text = String::from_str(alloc, "source: ")?;
-    put_violation(alloc, violation, strings, &mut text)?;
+    put_violation(alloc, violation, name_of(&violation, strings), &mut text)?;
     text.push('\n')?;
     Ok(text)
 }
 
-// Adds a rule that does not hold, its node, and its name at the end.
-pub(crate) fn put_violation(
+// The same of a file's tree, with the text of the violation's name.
+pub(crate) fn file_violation_line(
     alloc: Global,
     violation: Violation,
-    strings: &StringTable,
+    name: Option<Chars>,
+) -> Result<String, Memory>
+    ensures { IfOk result (λ text. string_bytes text ≡ of_file violation name) }
+{
+    let mut text = String::from_str(alloc, "file: ")?;
+    put_violation(alloc, violation, text_in(&name), &mut text)?;
+    text.push('\n')?;
+    Ok(text)
+}
+
+fn text_in(name: &Option<Chars>) -> Option<&str>
+    ensures { option_copied result ≡ name.now }
+{
+    match name {
+        Some(text) => Some(text.as_str()),
+        None => None,
+    }
+}
+
+// Adds a rule that does not hold, its node, and the text of its name at the end.
+fn put_violation(
+    alloc: Global,
+    violation: Violation,
+    name: Option<&str>,
     into: &mut String,
 ) -> Result<(), Memory>
-    ensures { OnOk result (string_bytes into.new ≡ string_bytes into.old ++ violation_text strings.now violation) }
+    ensures { OnOk result (string_bytes into.new ≡ string_bytes into.old ++ violation_text violation (option_copied name.entry)) }
 {
     into.push_str(name_of_rule(violation.rule))?;
     into.push_str(" at node ")?;
     put_number(violation.node, into)?;
-    put_name(alloc, violation.name, strings, into)
+    put_name(alloc, name, into)
 }
 
 fn put_fault(fault: SourceFault, into: &mut String) -> Result<(), Memory>
@@ -105,33 +130,15 @@ fn put_placed(fault: &str, at: u32, into: &mut String) -> Result<(), Memory>
 }
 
 // Adds a space and a name as a string literal at the end, where there is a name.
-fn put_name(
-    alloc: Global,
-    name: Option<NameId>,
-    strings: &StringTable,
-    into: &mut String,
-) -> Result<(), Memory>
-    ensures { OnOk result (string_bytes into.new ≡ string_bytes into.old ++ shown_name strings.now name) }
+fn put_name(alloc: Global, name: Option<&str>, into: &mut String) -> Result<(), Memory>
+    ensures { OnOk result (string_bytes into.new ≡ string_bytes into.old ++ shown_name (option_copied name.entry)) }
 {
     let Some(name) = name else {
         return Ok(());
     };
     into.push(' ')?;
-    let form = string_form(alloc, text_of(name, strings))?;
+    let form = string_form(alloc, name)?;
     Ok(into.push_str(form.as_str())?)
-}
-
-// The text of a name, or no character where the table has none.
-fn text_of(name: NameId, strings: &StringTable) -> &str
-    ensures { result.now ≡ name_text strings.now name.0 }
-{
-    if name.0 >= strings.len() {
-        return "";
-    }
-    match strings.text(name) {
-        Some(text) => text,
-        None => "",
-    }
 }
 
 fn name_of_left(what: Left) -> &'static str

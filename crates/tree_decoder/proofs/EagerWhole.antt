@@ -10,8 +10,8 @@ use Rattle.bast_schema.specs.Counts.{is_whole, is_whole_at, is_whole_in}
 use Rattle.bast_schema.specs.Fields.{fields, has_lazy, is_lazy_type}
 use Rattle.bast_schema.specs.Tree.{Tree, branch, Datum, child, absent, listed, flag, index, whole, name, no_name, choice, window, Data, none, more, kind_of, is_none, typed, fits, fit, item_type, items_fit}
 use Rattle.bast_schema.specs.Unions.{allowed}
-use Rattle.bast_schema.proofs.Both.{and_first, and_second}
-use Rattle.binast_run.specs.LazyKinds.{is_eager_kind, first_lazy, kinds_of, kinds_at, kinds_in}
+use Rattle.bast_schema.proofs.Both.{and_first, and_second, both}
+use Rattle.tree_decoder.specs.LazyKinds.{is_eager_kind, first_lazy, kinds_of, kinds_at, kinds_in}
 
 -- where no kind is lazy, each is eager
 first_before : (b : Bool) (n : ℕ) (ks : List Kind) → cond (not b) (Some n) (position_from (λ k. not (is_eager_kind k)) (n + 1) ks) ≡ None → (position_from (λ k. not (is_eager_kind k)) (n + 1) ks ≡ None → list_all is_eager_kind ks ≡ true) → (b && list_all is_eager_kind ks) ≡ true
@@ -33,10 +33,6 @@ eager_kind k is = not_true (has_lazy k) is
 neither : (a b : Bool) → (a || b) ≡ false → (a ≡ false) × (b ≡ false)
 neither true b is = cc
 neither false b is = (refl, is)
-
-both : (a b : Bool) → a ≡ true → b ≡ true → (a && b) ≡ true
-both true b one other = other
-both false b one other = cc
 
 item_eager : (u : Union) (holes : Bool) → is_lazy_type (item_type u holes) ≡ false
 item_eager u true = refl

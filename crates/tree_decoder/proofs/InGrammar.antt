@@ -2,7 +2,7 @@
 use Rattle.std.proofs.Common.{◌≡◌, ℕ, ◌<◌, ◌≤◌, ◌^◌, true, ◌&&◌, List, None, length, ap, ◌∙◌, arith}
 use Rattle.std.proofs.lemmas.Grind.{common_steps}
 use Rattle.std.specs.List.{All}
-use Rattle.bast_schema.proofs.Both.{and_first}
+use Rattle.bast_schema.proofs.Both.{and_first, both}
 use Rattle.bast_schema.specs.Held.{Held}
 use Rattle.bast_schema.specs.Counts.{is_whole}
 use Rattle.bast_schema.specs.Tree.{Tree, typed}
@@ -18,8 +18,7 @@ use Rattle.tree_decoder.specs.Range.{IsSound}
 use Rattle.tree_decoder.specs.Spelt.{IsSpelt}
 use Rattle.tree_decoder.proofs.Scripts.{script_accepted}
 use Rattle.tree_decoder.proofs.Whole.{spelt_by_itself, unnested_script}
-use Rattle.binast_run.specs.Reading.{fault_in, first_fault, IsFileOfScript}
-use Rattle.binast_run.proofs.NamedTrees.{both}
+use Rattle.tree_decoder.specs.Reading.{fault_in, first_fault, IsFileOfScript}
 
 pub read-in_grammar : (bytes : List ℕ) (l : Layout) (t : Tree) → length bytes < 2 ^ 32 → IsFileOfScript bytes l t → is_whole t ≡ true
     → InFile bytes (record { texts = l.strings; tape = bytes }) t

@@ -12,7 +12,7 @@ use Rattle.bast_schema.specs.Counts.{is_whole}
 use Rattle.bast_schema.specs.Fields.{fields, has_lazy}
 use Rattle.bast_schema.specs.Held.{Held}
 use Rattle.bast_schema.specs.Tree.{Tree, branch, Datum, child, absent, listed, flag, index, whole, name, no_name, choice, window, Data, none, more, typed, fits, fit, item_type, items_fit}
-use Rattle.bast_schema.proofs.Both.{and_first, and_second}
+use Rattle.bast_schema.proofs.Both.{and_first, and_second, both}
 use Rattle.container.specs.declared.layout.Layout.{Layout}
 use Rattle.container.specs.Atoms as atom
 use Rattle.container.specs.Atoms.{Atom, atoms, atoms_of, atoms_of_fields, atoms_of_items}
@@ -25,11 +25,10 @@ use Rattle.container.proofs.ReadBack.{one_reading}
 use Rattle.tree_decoder.specs.Outer.{tree_range}
 use Rattle.tree_decoder.specs.Range.{held}
 use Rattle.tree_decoder.proofs.OneTree.{one_eager_tree}
-use Rattle.binast_run.specs.LazyKinds.{is_eager_kind, first_lazy, kinds_of, kinds_at, kinds_in}
-use Rattle.binast_run.specs.Reading.{IsFileOfScript}
-use Rattle.binast_run.proofs.EagerWhole.{all_eager, eager_kind, child_fits, listed_fits}
-use Rattle.binast_run.proofs.NamedTrees.{both}
-use Rattle.binast_run.proofs.OneTree.{file_of}
+use Rattle.tree_decoder.specs.LazyKinds.{is_eager_kind, first_lazy, kinds_of, kinds_at, kinds_in}
+use Rattle.tree_decoder.specs.Reading.{IsFileOfScript}
+use Rattle.tree_decoder.proofs.EagerWhole.{all_eager, eager_kind, child_fits, listed_fits}
+use Rattle.tree_decoder.proofs.OneFile.{file_of}
 
 -- an atom that is of no lazy kind
 abbrev eager_atom : Atom → Bool

@@ -6,7 +6,7 @@ use Rattle.bast_schema.specs.declared.node.Value.{Value}
 use Rattle.bast_schema.specs.Tree.{Tree, branch, Datum, child, absent, listed, flag, index, whole, name, no_name, choice, window, Data, none, more, nodes, nodes_at, nodes_in}
 use Rattle.bast_schema.specs.View.{datum, data_of}
 use Rattle.bast_schema.proofs.Lists.{data_of_drop}
-use Rattle.binast_run.specs.LazyKinds.{is_eager_kind, kinds_of, kinds_at, kinds_in, walked}
+use Rattle.tree_decoder.specs.LazyKinds.{is_eager_kind, kinds_of, kinds_at, kinds_in, walked}
 
 -- as many kinds as nodes
 mutual

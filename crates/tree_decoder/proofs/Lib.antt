@@ -1,11 +1,19 @@
 pub mod Accepts
+pub mod Decoding
 pub mod Dues
+pub mod EagerWhole
+pub mod FileReadings
+pub mod InGrammar
+pub mod LazyAtoms
+pub mod LazyKinds
 pub mod Machine
 pub mod Moves
 pub mod Nodes
 pub mod OfTree
+pub mod OneFile
 pub mod OneScript
 pub mod OneTree
+pub mod ReadFile
 pub mod Rows
 pub mod Runs
 pub mod Scripts
@@ -13,4 +21,5 @@ pub mod Single
 pub mod Spells
 pub mod Spending
 pub mod Whole
+pub mod WholeReadings
 pub mod Wholes

@@ -1,12 +1,17 @@
 pub mod Dues
+pub mod FileLaws
 pub mod Found
+pub mod LazyKinds
 pub mod Left
 pub mod Numbers
 pub mod OneTree
 pub mod Outcome
 pub mod Outer
+pub mod OuterReading
 pub mod Range
+pub mod Reading
 pub mod Row
 pub mod Script
 pub mod Spelt
+pub mod WholeReading
 pub mod Windows

@@ -1,10 +1,9 @@
--- What a file comes to: its tree, or its first fault.
+-- What a file spells, and its first fault.
 use Rattle.std.specs.Prelude.{◌≡◌, ℕ, List, Option, Some, Result, Ok, Err}
 use Rattle.bast_base.specs.declared.errors.FormatFault.{FormatFault}
 use Rattle.bast_base.specs.declared.errors.Halt.{Halt}
 use Rattle.bast_base.specs.declared.errors.Halt.TheVariants.{Memory, Format}
 use Rattle.bast_schema.specs.Tree.{Tree}
-use Rattle.binast_run.specs.declared.files.File.{File}
 use Rattle.container.specs.declared.layout.Layout.{Layout}
 use Rattle.container.specs.IsContainer.{IsContainer}
 use Rattle.container.specs.Layout.{layout_of}
@@ -29,8 +28,14 @@ pub record IsFileOfScript (bytes : List ℕ) (l : Layout) (t : Tree) : Type 0 wh
   pub made : IsContainer bytes l
   pub script : IsScript (tree_range bytes l) l.from t
 
--- unless memory runs out, a file is read as its script, or refused with its first fault
-abbrev pub ReadsFile : List ℕ → Result File Halt → Type 0
-ReadsFile bytes (Ok f) = IsFileOfScript bytes f.layout f.tree
+-- the tree that a file spells over its texts
+pub record IsTreeOf (bytes : List ℕ) (texts : List (Option (List ℕ))) (t : Tree) : Type 0 where
+  pub layout : Layout
+  pub file : IsFileOfScript bytes layout t
+  pub texts_are : layout.strings ≡ texts
+
+-- unless memory runs out, a file is read as its tree and its texts, or refused with its first fault
+abbrev pub ReadsFile : List ℕ → Result (Tree × List (Option (List ℕ))) Halt → Type 0
+ReadsFile bytes (Ok x) = IsTreeOf bytes x.1 x.0
 ReadsFile bytes (Err Memory) = Unit {0}
 ReadsFile bytes (Err (Format e)) = first_fault bytes ≡ Some e

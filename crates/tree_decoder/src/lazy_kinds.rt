@@ -2,7 +2,7 @@
 ghost use Rattle.std.specs.Prelude.{◌≡◌, ◌<◌, ◌+◌, ◌^◌};
 ghost use Rattle.bast_schema.specs.Tree.{nodes, nodes_at, nodes_in};
 ghost use Rattle.bast_schema.specs.View.{datum, data_of};
-ghost use Rattle.binast_run.specs.LazyKinds.{is_eager_kind, first_lazy, kinds_of, kinds_at, kinds_in, walked};
+ghost use Rattle.tree_decoder.specs.LazyKinds.{is_eager_kind, first_lazy, kinds_of, kinds_at, kinds_in, walked};
 
 use bast_schema::{Kind, Node, Value};
 

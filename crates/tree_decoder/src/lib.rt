@@ -1,14 +1,23 @@
-//! The reader of trees: from the bytes of a range to the tree that they spell, or to their first fault.
+//! The reader of files: from the bytes of a range to the tree that they spell, or to their first fault, and from a whole
+//! file to its tree, or to the first thing that is wrong with it.
 #![tactic(auto)]
 
 mod cursor;
+mod decode;
+mod file_laws;
 mod laws;
+mod lazy_kinds;
 mod leaves;
 mod outer;
 mod reading;
 #[cfg(test)]
 mod tests;
 
+pub use decode::{ReadRefusal, decode};
+pub use file_laws::{
+    files_are_read_as_one_tree, files_have_one_tree, files_in_grammar_have_no_fault,
+    files_that_are_read_are_in_grammar, files_without_lazy_kinds_are_read_so,
+};
 pub use laws::{
     atoms_are_due, fault_is_first_behind_row, one_tree_is_spelled, only_trees_leave_nothing_due,
     scripts_are_one,

@@ -2,9 +2,9 @@ use Rattle.std.proofs.Common.{rules, ◌≡◌, sym, ◌∙◌, Ok, Err, arith}
 use Rattle.bast_schema.specs.View.{datum}
 use Rattle.bast_schema.proofs.Lists.{weight_member}
 use Rattle.bast_schema.proofs.Sums.{nodes_drop}
-use Rattle.binast_run.specs.LazyKinds.{kinds_at, walked}
-use Rattle.binast_run.proofs.LazyKinds.{value_count, values_no_further, values_on}
-use Rattle.binast_run.proofs.lazy_kinds.+lazy_kinds.Goals as goal
+use Rattle.tree_decoder.specs.LazyKinds.{kinds_at, walked}
+use Rattle.tree_decoder.proofs.LazyKinds.{value_count, values_no_further, values_on}
+use Rattle.tree_decoder.proofs.lazy_kinds.+lazy_kinds.Goals as goal
 
 pub walk_values-walk_value-requires : goal.walk_values-walk_value-requires
 walk_values-walk_value-requires t c = (

@@ -1,8 +1,8 @@
 use Rattle.std.proofs.Common.{◌≡◌, ◌+◌, ◌<◌, ◌^◌, drop}
 use Rattle.bast_schema.specs.Tree.{weight, weight_in, weight_at, nodes_in}
 use Rattle.bast_schema.specs.View.{datum, data_of}
-use Rattle.binast_run.specs.LazyKinds.{kinds_in, walked}
-use Rattle.binast_run.proofs.lazy_kinds.+lazy_kinds.Given as goal
+use Rattle.tree_decoder.specs.LazyKinds.{kinds_in, walked}
+use Rattle.tree_decoder.proofs.lazy_kinds.+lazy_kinds.Given as goal
 
 abbrev pub decreases-walk_node : goal.decreases-walk_node
 decreases-walk_node l = weight l.node.now

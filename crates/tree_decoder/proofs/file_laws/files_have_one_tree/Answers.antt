@@ -1,0 +1,5 @@
+use Rattle.tree_decoder.proofs.OneFile.{one_tree_in_file}
+use Rattle.tree_decoder.proofs.file_laws.files_have_one_tree.Goals as goal
+
+pub returns : goal.returns
+returns c = one_tree_in_file
