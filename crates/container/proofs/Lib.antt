@@ -6,6 +6,7 @@ pub mod Fields
 pub mod Fixed
 pub mod Fresh
 pub mod LayoutLemmas
+pub mod LayoutSpelled
 pub mod Named
 pub mod OutsideLemmas
 pub mod Ranges

@@ -18,7 +18,7 @@ use Rattle.container.specs.InFile.{IsEntry}
 use Rattle.container.specs.IsContainer.{IsContainer}
 use Rattle.container.specs.Parts.{counted_at, done_at, number_from}
 use Rattle.container.proofs.Added.{kinds_stay_distinct, texts_stay_distinct, texts_stay_valid}
-use Rattle.container.proofs.OutsideLemmas.{came_from}
+use Rattle.container.proofs.Answered.{came_from}
 use Rattle.container.proofs.Ranges.{lies_more, number_lies, range_to_end}
 
 pub lies_none : (bytes : List ℕ) (at end : ℕ) → at ≤ end → Lies bytes at end [] at

@@ -9,6 +9,6 @@ mod tables;
 mod tests;
 mod writing;
 
-pub use laws::{container_has_one_reading, container_is_read_back};
+pub use laws::{container_has_one_reading, container_is_read_back, layouts_are_containers};
 pub use layout::{Layout, read_layout};
 pub use writing::write_file;
