@@ -5,6 +5,7 @@ pub mod Entries
 pub mod Fields
 pub mod Fixed
 pub mod Fresh
+pub mod LayoutDistinct
 pub mod LayoutLemmas
 pub mod LayoutSpelled
 pub mod Named

@@ -68,7 +68,7 @@ table_keeps P more keep first bytes end at xs is =
     let same : p.0.0 ≡ xs = let e2 = r.2 in cc in
     subst P same (entries_keep P more keep bytes end q.0.0 [] q.0.1 p.0 q.2 first)
 
-none_distinct : AreDistinct []
+pub none_distinct : AreDistinct []
 unfolding IsDistinct
 none_distinct = search rules
 

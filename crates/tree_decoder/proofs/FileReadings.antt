@@ -4,6 +4,7 @@ use Rattle.bast_base.specs.declared.errors.FormatFault.{FormatFault}
 use Rattle.bast_schema.specs.Tree.{Tree}
 use Rattle.container.specs.Layout.{layout_of}
 use Rattle.container.specs.declared.layout.Layout.{Layout}
+use Rattle.container.proofs.LayoutDistinct.{layout_distinct}
 use Rattle.tree_decoder.specs.Outcome.{Outcome}
 use Rattle.tree_decoder.specs.Outer.{tree_range}
 use Rattle.tree_decoder.specs.Reading.{fault_in, first_fault, IsFileOfScript, IsTreeOf}
@@ -22,7 +23,7 @@ pub one_file : (bytes : List ℕ) (l m : Layout) (t u : Tree) → IsFileOfScript
 one_file bytes l m t u p q =
     let same = one_layout bytes l m t u p q
     in let read : IsFileOfScript bytes l u = subst (λ (x : Layout). IsFileOfScript bytes x u) (sym same) q
-    in (same, one_script (tree_range bytes l) l.from t u p.made.distinct_texts p.script read.script)
+    in (same, one_script (tree_range bytes l) l.from t u (layout_distinct bytes l p.container) p.script read.script)
 
 pub one_tree_of : (bytes : List ℕ) (texts strings : List (Option (List ℕ))) (t u : Tree) → IsTreeOf bytes texts t → IsTreeOf bytes strings u → (texts ≡ strings) × (t ≡ u)
 one_tree_of bytes texts strings t u p q =

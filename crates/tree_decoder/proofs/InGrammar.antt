@@ -1,5 +1,5 @@
 -- A file that is read as a whole tree is in the grammar of files, and a file in the grammar has no fault.
-use Rattle.std.proofs.Common.{◌≡◌, ℕ, ◌<◌, ◌≤◌, ◌^◌, true, ◌&&◌, List, None, length, ap, ◌∙◌, arith}
+use Rattle.std.proofs.Common.{◌≡◌, ℕ, ◌<◌, ◌≤◌, ◌^◌, true, ◌&&◌, List, None, length, ap, ◌∙◌, refl, slice_range, arith}
 use Rattle.std.proofs.lemmas.Grind.{common_steps}
 use Rattle.std.specs.List.{All}
 use Rattle.bast_schema.proofs.Both.{and_first, both}
@@ -8,9 +8,10 @@ use Rattle.bast_schema.specs.Counts.{is_whole}
 use Rattle.bast_schema.specs.Tree.{Tree, typed}
 use Rattle.container.specs.Container.{container, entry_bytes}
 use Rattle.container.specs.InFile.{InFile, is_unnested}
-use Rattle.container.specs.IsContainer.{IsFileOf, layout_in, tables}
+use Rattle.container.specs.IsContainer.{IsContainer, IsFileOf, layout_in, tables}
 use Rattle.container.specs.Spelled.{spelled}
 use Rattle.container.specs.Tables.{Tables}
+use Rattle.container.proofs.LayoutSpelled.{layout_is_container}
 use Rattle.container.proofs.ReadBack.{few_entries, layout_read}
 use Rattle.container.specs.declared.layout.Layout.{Layout}
 use Rattle.tree_decoder.specs.Outer.{tree_range}
@@ -20,29 +21,42 @@ use Rattle.tree_decoder.proofs.Scripts.{script_accepted}
 use Rattle.tree_decoder.proofs.Whole.{spelt_by_itself, unnested_script}
 use Rattle.tree_decoder.specs.Reading.{fault_in, first_fault, IsFileOfScript}
 
-pub read-in_grammar : (bytes : List ℕ) (l : Layout) (t : Tree) → length bytes < 2 ^ 32 → IsFileOfScript bytes l t → is_whole t ≡ true
-    → InFile bytes (record { texts = l.strings; tape = bytes }) t
-read-in_grammar bytes l t few file whole =
-    let r = tree_range bytes l
+-- over the texts of its own table
+pub read-in_grammar : (bytes : List ℕ) (l : Layout) (t : Tree) → length bytes < 2 ^ 32 → All (λ byte. byte < 256) bytes → IsFileOfScript bytes l t → is_whole t ≡ true
+    → (f : InFile bytes (record { texts = l.strings; tape = bytes }) t) × (f.tables.texts ≡ l.strings)
+read-in_grammar bytes l t few small file whole =
+    let made = layout_is_container bytes l small file.container
+    in let r = tree_range bytes l
     in let spelt = spelt_by_itself r l.from t file.script
-    in record {
+    in (record {
       tables = tables l;
-      distinct_kinds = file.made.distinct_kinds;
-      distinct_texts = file.made.distinct_texts;
-      entries = file.made.entries;
+      distinct_kinds = made.distinct_kinds;
+      distinct_texts = made.distinct_texts;
+      entries = made.entries;
       has_all = spelt.has_all;
       named = spelt.named;
-      spelling = file.made.spelling ∙ ap (container (tables l)) file.script.spelled;
+      spelling = made.spelling ∙ ap (container (tables l)) file.script.spelled;
       small = few;
       script = file.script.kind;
       typed_whole = both (typed t && is_whole t) (is_unnested t) (both (typed t) (is_whole t) file.script.typed whole) (unnested_script r l.from t file.script whole);
       shallow = file.script.shallow;
-    }
+    }, refl)
 
 -- a table has no more entries than bytes
 texts_within : (s : Tables) (tree : List ℕ) → length s.texts ≤ length (container s tree)
 unfolding container
 texts_within s tree = grind (arith, common_steps, few_entries entry_bytes s.texts)
+
+-- the range of a container's tree
+pub sound_range : (bytes : List ℕ) (l : Layout) → length bytes ≤ 8388608 → All (λ byte. byte < 256) bytes → IsContainer bytes l → IsSound (tree_range bytes l)
+sound_range bytes l short small made = record {
+  within = made.within;
+  short = short;
+  bytes = small;
+  kinds = made.distinct_kinds;
+  texts = made.distinct_texts;
+  few = omega (arith, texts_within (tables l) (slice_range bytes l.from l.to), ap length made.spelling);
+}
 
 -- a file in the grammar has no fault
 pub in_grammar-accepted : (bytes : List ℕ) (h : Held) (t : Tree) → length bytes ≤ 8388608 → All (λ byte. byte < 256) bytes → InFile bytes h t → first_fault bytes ≡ None

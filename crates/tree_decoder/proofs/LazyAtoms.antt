@@ -1,6 +1,6 @@
 -- The kinds of a tree are told by its atoms, and a tree without lazy kinds is the only one that its file spells.
-use Rattle.std.proofs.Common.{◌≡◌, ℕ, ◌+◌, Bool, true, false, not, ◌&&◌, List, [], ◌∷◌, ◌++◌, None, refl, sym, ap, subst, ◌∙◌}
-use Rattle.std.specs.List.{list_all, position_from}
+use Rattle.std.proofs.Common.{◌≡◌, ℕ, ◌+◌, Bool, true, false, not, ◌&&◌, List, [], ◌∷◌, ◌++◌, None, ◌<◌, refl, sym, ap, subst, ◌∙◌}
+use Rattle.std.specs.List.{All, list_all, position_from}
 use Rattle.std.specs.Prelude.{slice_range}
 use Rattle.std.proofs.lemmas.List.Folds.{list_all-append}
 use Rattle.bast_schema.specs.declared.kind.Kind.{Kind}
@@ -21,6 +21,7 @@ use Rattle.container.specs.InFile.{InFile, has_atom, is_unnested}
 use Rattle.container.specs.IsContainer.{IsFileOf, tables}
 use Rattle.container.specs.Spelled.{spelled}
 use Rattle.container.specs.Tables.{Tables}
+use Rattle.container.proofs.LayoutSpelled.{layout_is_container}
 use Rattle.container.proofs.ReadBack.{one_reading}
 use Rattle.tree_decoder.specs.Outer.{tree_range}
 use Rattle.tree_decoder.specs.Range.{held}
@@ -144,15 +145,16 @@ none_other n (k ∷ ks) all =
     rw (and_first (is_eager_kind k) (list_all is_eager_kind ks) all) (none_other (n + 1) ks (and_second (is_eager_kind k) (list_all is_eager_kind ks) all))
 
 -- a tree without lazy kinds in a file is read as one without them
-pub eager_read : (bytes : List ℕ) (h : Held) (t : Tree) (l : Layout) (u : Tree) → InFile bytes h t → first_lazy t ≡ None → IsFileOfScript bytes l u → first_lazy u ≡ None
-eager_read bytes h t l u file first read =
-    let r = tree_range bytes l
+pub eager_read : (bytes : List ℕ) (h : Held) (t : Tree) (l : Layout) (u : Tree) → All (λ byte. byte < 256) bytes → InFile bytes h t → first_lazy t ≡ None → IsFileOfScript bytes l u → first_lazy u ≡ None
+eager_read bytes h t l u small file first read =
+    let container = layout_is_container bytes l small read.container
+    in let r = tree_range bytes l
     in let slice = slice_range bytes l.from l.to
     in let made : IsFileOf (tables l) slice bytes = record {
-      distinct_kinds = read.made.distinct_kinds;
-      distinct_texts = read.made.distinct_texts;
-      entries = read.made.entries;
-      spelling = read.made.spelling;
+      distinct_kinds = container.distinct_kinds;
+      distinct_texts = container.distinct_texts;
+      entries = container.entries;
+      spelling = container.spelling;
     }
     in let same = one_reading file.tables (tables l) (spelled file.tables h t) slice bytes (file_of bytes h t file) made file.small
     in let all = all_eager 0 (kinds_of t) first

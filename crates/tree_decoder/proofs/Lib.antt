@@ -2,6 +2,7 @@ pub mod Accepts
 pub mod Decoding
 pub mod Dues
 pub mod EagerWhole
+pub mod EveryFile
 pub mod FileReadings
 pub mod InGrammar
 pub mod LazyAtoms

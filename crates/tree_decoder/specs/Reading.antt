@@ -5,7 +5,6 @@ use Rattle.bast_base.specs.declared.errors.Halt.{Halt}
 use Rattle.bast_base.specs.declared.errors.Halt.TheVariants.{Memory, Format}
 use Rattle.bast_schema.specs.Tree.{Tree}
 use Rattle.container.specs.declared.layout.Layout.{Layout}
-use Rattle.container.specs.IsContainer.{IsContainer}
 use Rattle.container.specs.Layout.{layout_of}
 use Rattle.tree_decoder.specs.Outer.{tree_range}
 use Rattle.tree_decoder.specs.Script.{IsScript, script_outcome}
@@ -25,7 +24,6 @@ first_fault bytes = fault_in bytes (layout_of bytes)
 -- the container of a file, and the script that its tree's bytes spell
 pub record IsFileOfScript (bytes : List ℕ) (l : Layout) (t : Tree) : Type 0 where
   pub container : layout_of bytes ≡ Ok l
-  pub made : IsContainer bytes l
   pub script : IsScript (tree_range bytes l) l.from t
 
 -- the tree that a file spells over its texts

@@ -15,8 +15,9 @@ mod tests;
 
 pub use decode::{ReadRefusal, decode};
 pub use file_laws::{
-    files_are_read_as_one_tree, files_have_one_tree, files_in_grammar_have_no_fault,
-    files_that_are_read_are_in_grammar, files_without_lazy_kinds_are_read_so,
+    files_are_read_as_one_tree, files_are_read_exactly, files_have_one_reading,
+    files_have_one_tree, files_in_grammar_have_no_fault, files_that_are_read_are_in_grammar,
+    files_without_lazy_kinds_are_read_so,
 };
 pub use laws::{
     atoms_are_due, fault_is_first_behind_row, one_tree_is_spelled, only_trees_leave_nothing_due,
