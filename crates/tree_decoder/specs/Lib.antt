@@ -7,6 +7,7 @@ pub mod Outcome
 pub mod Outer
 pub mod Range
 pub mod Row
+pub mod SameTree
 pub mod Script
 pub mod Spelt
 pub mod Windows
