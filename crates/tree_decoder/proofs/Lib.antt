@@ -9,6 +9,7 @@ pub mod LazyAtoms
 pub mod LazyKinds
 pub mod Machine
 pub mod Moves
+pub mod NoNull
 pub mod Nodes
 pub mod OfTree
 pub mod OneFile
@@ -17,10 +18,12 @@ pub mod OneTree
 pub mod ReadFile
 pub mod Rows
 pub mod Runs
+pub mod SameTree
 pub mod Scripts
 pub mod Single
 pub mod Spells
 pub mod Spending
+pub mod Values
 pub mod Whole
 pub mod WholeReadings
 pub mod Wholes

@@ -8,12 +8,15 @@ use Rattle.bast_base.specs.declared.errors.Halt.TheVariants.{Memory, Format}
 use Rattle.bast_schema.specs.declared.kind.FieldType.{FieldType}
 use Rattle.bast_schema.specs.declared.node.Value.{Value}
 use Rattle.bast_schema.specs.Held.{Held}
-use Rattle.bast_schema.specs.Tree.{Data, none, fits, fit, depth_at, depth_in}
+use Rattle.bast_schema.specs.Counts.{join}
+use Rattle.bast_schema.specs.Tree.{Datum, Data, none, more, fits, fit, depth_in}
 use Rattle.bast_schema.specs.View.{datum, data_of}
 use Rattle.bast_schema.proofs.Both.{and_first, and_second}
+use Rattle.bast_schema.proofs.Sums.{data_of_append}
 use Rattle.container.specs.Atoms.{atoms_of, atoms_of_fields}
 use Rattle.container.specs.InFile.{has_atom}
 use Rattle.container.specs.Spelled.{framed, spelled_at, spelled_fields}
+use Rattle.container.specs.Tables.{Tables}
 use Rattle.tree_decoder.specs.Dues.{Due, due, dues, times}
 use Rattle.tree_decoder.specs.Found.{Found, Run, Fails, Spent, SpentFails, stands_at, all_stand}
 use Rattle.tree_decoder.specs.Left.{is_folded, folded_at, folded_fields}
@@ -29,90 +32,118 @@ dues_both : (front back : List FieldType) (d : ℕ) (w : Bool) (ds : List Due) �
 dues_both [] back d w ds = refl
 dues_both (u ∷ front) back d w ds = ap (λ es. due u d w ∷ es) (dues_both front back d w ds)
 
-spelled_more : (r : Range) (ts : List FieldType) (t : FieldType) (vs : List Value) (v : Value) → fit ts (data_of vs) ≡ true → spelled_fields r.tables (held r) (ts ++ t ∷ []) (data_of (vs ++ v ∷ [])) ≡ spelled_fields r.tables (held r) ts (data_of vs) ++ framed t (spelled_at r.tables (held r) t (datum v))
-spelled_more r [] t [] v e = append-nil (framed t (spelled_at r.tables (held r) t (datum v)))
-spelled_more r [] t (x ∷ vs) v e = cc
-spelled_more r (u ∷ ts) t [] v e = cc
-spelled_more r (u ∷ ts) t (x ∷ vs) v e =
-    ap (λ b. framed u (spelled_at r.tables (held r) u (datum x)) ++ b) (spelled_more r ts t vs v (and_second (fits u (datum x)) (fit ts (data_of vs)) e))
-    ∙ sym (append_assoc (framed u (spelled_at r.tables (held r) u (datum x))) (spelled_fields r.tables (held r) ts (data_of vs)) (framed t (spelled_at r.tables (held r) t (datum v))))
-
 and_both : (a b c : Bool) → (a && b) ≡ true → (b ≡ true → c ≡ true) → (a && c) ≡ true
 and_both true b c e f = f e
 and_both false b c e f = cc
-
-fit_more : (ts : List FieldType) (t : FieldType) (vs : List Value) (v : Value) → fit ts (data_of vs) ≡ true → fits t (datum v) ≡ true → fit (ts ++ t ∷ []) (data_of (vs ++ v ∷ [])) ≡ true
-fit_more [] t [] v e f = rw f refl
-fit_more [] t (x ∷ vs) v e f = cc
-fit_more (u ∷ ts) t [] v e f = cc
-fit_more (u ∷ ts) t (x ∷ vs) v e f = and_both (fits u (datum x)) (fit ts (data_of vs)) (fit (ts ++ t ∷ []) (data_of (vs ++ v ∷ []))) e (λ h. fit_more ts t vs v h f)
-
-stand_more : (r : Range) (vs : List Value) (v : Value) → all_stand r (data_of vs) ≡ true → stands_at r (datum v) ≡ true → all_stand r (data_of (vs ++ v ∷ [])) ≡ true
-stand_more r [] v e f = rw f refl
-stand_more r (x ∷ vs) v e f = and_both (stands_at r (datum x)) (all_stand r (data_of vs)) (all_stand r (data_of (vs ++ v ∷ []))) e (λ h. stand_more r vs v h f)
-
-atoms_more : (h : Held) (ts : List FieldType) (t : FieldType) (vs : List Value) (v : Value) → fit ts (data_of vs) ≡ true → atoms_of_fields h (ts ++ t ∷ []) (data_of (vs ++ v ∷ [])) ≡ atoms_of_fields h ts (data_of vs) ++ atoms_of h t (datum v)
-atoms_more h [] t [] v e = append-nil (atoms_of h t (datum v))
-atoms_more h [] t (x ∷ vs) v e = cc
-atoms_more h (u ∷ ts) t [] v e = cc
-atoms_more h (u ∷ ts) t (x ∷ vs) v e =
-    ap (λ b. atoms_of h u (datum x) ++ b) (atoms_more h ts t vs v (and_second (fits u (datum x)) (fit ts (data_of vs)) e))
-    ∙ sym (append_assoc (atoms_of h u (datum x)) (atoms_of_fields h ts (data_of vs)) (atoms_of h t (datum v)))
 
 both_true : (a b : Bool) → a ≡ true → b ≡ true → (a && b) ≡ true
 both_true true b p q = q
 both_true false b p q = cc
 
-has_more : (r : Range) (ts : List FieldType) (t : FieldType) (vs : List Value) (v : Value) → fit ts (data_of vs) ≡ true → list_all (has_atom r.tables) (atoms_of_fields (held r) ts (data_of vs)) ≡ true → list_all (has_atom r.tables) (atoms_of (held r) t (datum v)) ≡ true → list_all (has_atom r.tables) (atoms_of_fields (held r) (ts ++ t ∷ []) (data_of (vs ++ v ∷ []))) ≡ true
-has_more r ts t vs v fit_ok front last =
-    ap (list_all (has_atom r.tables)) (atoms_more (held r) ts t vs v fit_ok)
-    ∙ list_all-append (has_atom r.tables) (atoms_of_fields (held r) ts (data_of vs)) (atoms_of (held r) t (datum v))
+-- ---- the values of one list of types and then those of another
+
+spelled_both : (s : Tables) (h : Held) (ts us : List FieldType) (vs ws : Data) → fit ts vs ≡ true → spelled_fields s h (ts ++ us) (join vs ws) ≡ spelled_fields s h ts vs ++ spelled_fields s h us ws
+spelled_both s h [] us none ws e = refl
+spelled_both s h [] us (more v vs) ws e = cc
+spelled_both s h (t ∷ ts) us none ws e = cc
+spelled_both s h (t ∷ ts) us (more v vs) ws e =
+    ap (λ b. framed t (spelled_at s h t v) ++ b) (spelled_both s h ts us vs ws (and_second (fits t v) (fit ts vs) e))
+    ∙ sym (append_assoc (framed t (spelled_at s h t v)) (spelled_fields s h ts vs) (spelled_fields s h us ws))
+
+fit_both : (ts us : List FieldType) (vs ws : Data) → fit ts vs ≡ true → fit us ws ≡ true → fit (ts ++ us) (join vs ws) ≡ true
+fit_both [] us none ws e f = f
+fit_both [] us (more v vs) ws e f = cc
+fit_both (t ∷ ts) us none ws e f = cc
+fit_both (t ∷ ts) us (more v vs) ws e f = and_both (fits t v) (fit ts vs) (fit (ts ++ us) (join vs ws)) e (λ h. fit_both ts us vs ws h f)
+
+stand_both : (r : Range) (vs ws : Data) → all_stand r vs ≡ true → all_stand r ws ≡ true → all_stand r (join vs ws) ≡ true
+stand_both r none ws e f = f
+stand_both r (more v vs) ws e f = and_both (stands_at r v) (all_stand r vs) (all_stand r (join vs ws)) e (λ h. stand_both r vs ws h f)
+
+atoms_both : (h : Held) (ts us : List FieldType) (vs ws : Data) → fit ts vs ≡ true → atoms_of_fields h (ts ++ us) (join vs ws) ≡ atoms_of_fields h ts vs ++ atoms_of_fields h us ws
+atoms_both h [] us none ws e = refl
+atoms_both h [] us (more v vs) ws e = cc
+atoms_both h (t ∷ ts) us none ws e = cc
+atoms_both h (t ∷ ts) us (more v vs) ws e =
+    ap (λ b. atoms_of h t v ++ b) (atoms_both h ts us vs ws (and_second (fits t v) (fit ts vs) e))
+    ∙ sym (append_assoc (atoms_of h t v) (atoms_of_fields h ts vs) (atoms_of_fields h us ws))
+
+has_both : (s : Tables) (h : Held) (ts us : List FieldType) (vs ws : Data) → fit ts vs ≡ true → list_all (has_atom s) (atoms_of_fields h ts vs) ≡ true → list_all (has_atom s) (atoms_of_fields h us ws) ≡ true → list_all (has_atom s) (atoms_of_fields h (ts ++ us) (join vs ws)) ≡ true
+has_both s h ts us vs ws fit_ok front last =
+    ap (list_all (has_atom s)) (atoms_both h ts us vs ws fit_ok)
+    ∙ list_all-append (has_atom s) (atoms_of_fields h ts vs) (atoms_of_fields h us ws)
     ∙ both_true _ _ front last
 
-folded_more : (ts : List FieldType) (t : FieldType) (vs : List Value) (v : Value) → fit ts (data_of vs) ≡ true → folded_fields ts (data_of vs) ≡ true → (is_folded t (datum v) && folded_at (datum v)) ≡ true → folded_fields (ts ++ t ∷ []) (data_of (vs ++ v ∷ [])) ≡ true
-folded_more [] t [] v fit_ok e f = both_true (is_folded t (datum v)) (folded_at (datum v) && true) (and_first (is_folded t (datum v)) (folded_at (datum v)) f) (both_true (folded_at (datum v)) true (and_second (is_folded t (datum v)) (folded_at (datum v)) f) refl)
-folded_more [] t (x ∷ vs) v fit_ok e f = cc
-folded_more (u ∷ ts) t [] v fit_ok e f = cc
-folded_more (u ∷ ts) t (x ∷ vs) v fit_ok e f =
-    let rest = and_second (is_folded u (datum x)) (folded_at (datum x) && folded_fields ts (data_of vs)) e in
-    both_true (is_folded u (datum x)) (folded_at (datum x) && folded_fields (ts ++ t ∷ []) (data_of (vs ++ v ∷ []))) (and_first (is_folded u (datum x)) (folded_at (datum x) && folded_fields ts (data_of vs)) e)
-    (both_true (folded_at (datum x)) (folded_fields (ts ++ t ∷ []) (data_of (vs ++ v ∷ []))) (and_first (folded_at (datum x)) (folded_fields ts (data_of vs)) rest)
-    (folded_more ts t vs v (and_second (fits u (datum x)) (fit ts (data_of vs)) fit_ok) (and_second (folded_at (datum x)) (folded_fields ts (data_of vs)) rest) f))
+folded_both : (ts us : List FieldType) (vs ws : Data) → fit ts vs ≡ true → folded_fields ts vs ≡ true → folded_fields us ws ≡ true → folded_fields (ts ++ us) (join vs ws) ≡ true
+folded_both [] us none ws fit_ok e f = f
+folded_both [] us (more v vs) ws fit_ok e f = cc
+folded_both (t ∷ ts) us none ws fit_ok e f = cc
+folded_both (t ∷ ts) us (more v vs) ws fit_ok e f =
+    let rest = and_second (is_folded t v) (folded_at v && folded_fields ts vs) e in
+    both_true (is_folded t v) (folded_at v && folded_fields (ts ++ us) (join vs ws)) (and_first (is_folded t v) (folded_at v && folded_fields ts vs) e)
+    (both_true (folded_at v) (folded_fields (ts ++ us) (join vs ws)) (and_first (folded_at v) (folded_fields ts vs) rest)
+    (folded_both ts us vs ws (and_second (fits t v) (fit ts vs) fit_ok) (and_second (folded_at v) (folded_fields ts vs) rest) f))
 
-depth_more : (d : ℕ) (vs : List Value) (v : Value) → depth_in (data_of vs) + d ≤ 513 → depth_at (datum v) + d ≤ 513 → depth_in (data_of (vs ++ v ∷ [])) + d ≤ 513
-depth_more d [] v h k = omega arith
-depth_more d (x ∷ vs) v h k = let i : depth_in (data_of (vs ++ v ∷ [])) + d ≤ 513 = depth_more d vs v (omega arith) k in omega arith
+depth_both : (d : ℕ) (vs ws : Data) → depth_in vs + d ≤ 513 → depth_in ws + d ≤ 513 → depth_in (join vs ws) + d ≤ 513
+depth_both d none ws h k = k
+depth_both d (more v vs) ws h k = let i : depth_in (join vs ws) + d ≤ 513 = depth_both d vs ws (omega arith) k in omega arith
 
-pub windows_more : (vs : List Value) (v : Value) → windows_in (data_of (vs ++ v ∷ [])) ≡ windows_in (data_of vs) ++ windows_at (datum v)
-windows_more [] v = append-nil (windows_at (datum v))
-windows_more (x ∷ vs) v = ap (λ ws. windows_at (datum x) ++ ws) (windows_more vs v) ∙ sym (append_assoc (windows_at (datum x)) (windows_in (data_of vs)) (windows_at (datum v)))
+windows_both : (vs ws : Data) → windows_in (join vs ws) ≡ windows_in vs ++ windows_in ws
+windows_both none ws = refl
+windows_both (more v vs) ws = ap (λ us. windows_at v ++ us) (windows_both vs ws) ∙ sym (append_assoc (windows_at v) (windows_in vs) (windows_in ws))
 
 pub run_none : (r : Range) (d : ℕ) (w : Bool) (at : ℕ) → d ≤ 513 → at ≤ r.end → Run r [] d w at none at
 run_none r d w at h k = record { goes_on = λ ds. refl; spelled = refl; fits = refl; depth = omega arith; stands = refl; has_all = refl; folded = refl; forward = omega arith; within = k }
 
-pub run_more : (r : Range) (ts : List FieldType) (t : FieldType) (d : ℕ) (w : Bool) (a b c : ℕ) (vs : List Value) (v : Value) → Run r ts d w a (data_of vs) b → Found r t d w b (datum v) c → Run r (ts ++ t ∷ []) d w a (data_of (vs ++ v ∷ [])) c
-run_more r ts t d w a b c vs v run f =
-    let p = run.forward in let q = f.forward in
+run_one : (r : Range) (t : FieldType) (d : ℕ) (w : Bool) (a b : ℕ) (v : Datum) → Found r t d w a v b → Run r (t ∷ []) d w a (more v none) b
+run_one r t d w a b v f =
+    let q = f.forward in let deep = f.depth in
     record {
-      goes_on = λ ds.
-          ap (λ es. outcome_from r es a) (dues_both ts (t ∷ []) d w ds)
-          ∙ run.goes_on (due t d w ∷ ds)
-          ∙ ap (behind (windows_in (data_of vs))) (f.goes_on ds)
-          ∙ behind_both (windows_in (data_of vs)) (windows_at (datum v)) (outcome_from r ds c)
-          ∙ ap (λ ws. behind ws (outcome_from r ds c)) (sym (windows_more vs v));
-      spelled =
-          run.spelled
-          ∙ ap (λ x. spelled_fields r.tables (held r) ts (data_of vs) ++ x) f.spelled
-          ∙ sym (append_assoc (spelled_fields r.tables (held r) ts (data_of vs)) (framed t (spelled_at r.tables (held r) t (datum v))) (left r c))
-          ∙ ap (λ x. x ++ left r c) (sym (spelled_more r ts t vs v run.fits));
-      fits = fit_more ts t vs v run.fits f.fits;
-      depth = depth_more d vs v run.depth f.depth;
-      stands = stand_more r vs v run.stands f.stands;
-      has_all = has_more r ts t vs v run.fits run.has_all f.has_all;
-      folded = folded_more ts t vs v run.fits run.folded f.folded;
+      goes_on = λ ds. f.goes_on ds ∙ ap (λ ws. behind ws (outcome_from r ds b)) (sym (append-nil (windows_at v)));
+      spelled = f.spelled ∙ ap (λ x. x ++ left r b) (sym (append-nil (framed t (spelled_at r.tables (held r) t v))));
+      fits = both_true (fits t v) true f.fits refl;
+      depth = omega arith;
+      stands = both_true (stands_at r v) true f.stands refl;
+      has_all = ap (list_all (has_atom r.tables)) (append-nil (atoms_of (held r) t v)) ∙ f.has_all;
+      folded = both_true (is_folded t v) (folded_at v && true) (and_first (is_folded t v) (folded_at v) f.folded) (both_true (folded_at v) true (and_second (is_folded t v) (folded_at v) f.folded) refl);
       forward = omega arith;
       within = f.within;
     }
+
+run_both : (r : Range) (ts us : List FieldType) (d : ℕ) (w : Bool) (a b c : ℕ) (vs ws : Data) → Run r ts d w a vs b → Run r us d w b ws c → Run r (ts ++ us) d w a (join vs ws) c
+run_both r ts us d w a b c vs ws first second =
+    let p = first.forward in let q = second.forward in
+    record {
+      goes_on = λ ds.
+          ap (λ es. outcome_from r es a) (dues_both ts us d w ds)
+          ∙ first.goes_on (dues us d w ++ ds)
+          ∙ ap (behind (windows_in vs)) (second.goes_on ds)
+          ∙ behind_both (windows_in vs) (windows_in ws) (outcome_from r ds c)
+          ∙ ap (λ xs. behind xs (outcome_from r ds c)) (sym (windows_both vs ws));
+      spelled =
+          first.spelled
+          ∙ ap (λ x. spelled_fields r.tables (held r) ts vs ++ x) second.spelled
+          ∙ sym (append_assoc (spelled_fields r.tables (held r) ts vs) (spelled_fields r.tables (held r) us ws) (left r c))
+          ∙ ap (λ x. x ++ left r c) (sym (spelled_both r.tables (held r) ts us vs ws first.fits));
+      fits = fit_both ts us vs ws first.fits second.fits;
+      depth = depth_both d vs ws first.depth second.depth;
+      stands = stand_both r vs ws first.stands second.stands;
+      has_all = has_both r.tables (held r) ts us vs ws first.fits first.has_all second.has_all;
+      folded = folded_both ts us vs ws first.fits first.folded second.folded;
+      forward = omega arith;
+      within = second.within;
+    }
+
+-- one value, and those of the types after it
+pub run_cons : (r : Range) (t : FieldType) (ts : List FieldType) (d : ℕ) (w : Bool) (a b c : ℕ) (v : Datum) (vs : Data) → Found r t d w a v b → Run r ts d w b vs c → Run r (t ∷ ts) d w a (more v vs) c
+run_cons r t ts d w a b c v vs f run = run_both r (t ∷ []) ts d w a b c (more v none) vs (run_one r t d w a b v f) run
+
+-- one value after those of several types
+pub run_more : (r : Range) (ts : List FieldType) (t : FieldType) (d : ℕ) (w : Bool) (a b c : ℕ) (vs : List Value) (v : Value) → Run r ts d w a (data_of vs) b → Found r t d w b (datum v) c → Run r (ts ++ t ∷ []) d w a (data_of (vs ++ v ∷ [])) c
+run_more r ts t d w a b c vs v run f = subst (λ (us : Data). Run r (ts ++ t ∷ []) d w a us c) (sym (data_of_append vs (v ∷ []))) (run_both r ts (t ∷ []) d w a b c (data_of vs) (more (datum v) none) run (run_one r t d w b c (datum v) f))
+
+pub windows_more : (vs : List Value) (v : Value) → windows_in (data_of (vs ++ v ∷ [])) ≡ windows_in (data_of vs) ++ windows_at (datum v)
+windows_more vs v = ap windows_in (data_of_append vs (v ∷ [])) ∙ windows_both (data_of vs) (more (datum v) none) ∙ ap (λ ws. windows_in (data_of vs) ++ ws) (append-nil (windows_at (datum v)))
 
 pub spent_more : (vs : List Value) (v : Value) (a b c old mid new : ℕ) → a ≤ b → b ≤ c → Spent (windows_in (data_of vs)) a b old mid → Spent (windows_at (datum v)) b c mid new → Spent (windows_in (data_of (vs ++ v ∷ []))) a c old new
 spent_more vs v a b c old mid new h k s t =

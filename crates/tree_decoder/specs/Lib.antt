@@ -11,6 +11,7 @@ pub mod OuterReading
 pub mod Range
 pub mod Reading
 pub mod Row
+pub mod SameTree
 pub mod Script
 pub mod Spelt
 pub mod WholeReading

@@ -15,7 +15,7 @@ use Rattle.tree_decoder.specs.Dues.{due}
 use Rattle.tree_decoder.specs.Found.{stands}
 use Rattle.tree_decoder.specs.Left.{folded}
 use Rattle.tree_decoder.specs.Outcome.{Outcome, outcome_from}
-use Rattle.tree_decoder.specs.Range.{Range, held, left}
+use Rattle.tree_decoder.specs.Range.{Range, IsSound, held, left}
 use Rattle.tree_decoder.specs.Windows.{windows}
 
 abbrev pub script : FieldType
@@ -42,3 +42,7 @@ abbrev pub ReadsScript : Range → ℕ → Result Tree Halt → Type 0
 ReadsScript r at (Ok t) = IsScript r at t
 ReadsScript r at (Err Memory) = Unit {0}
 ReadsScript r at (Err (Format f)) = (script_outcome r at).fault ≡ Some f
+
+-- where no fault is found from a place on, some script is spelled there
+abbrev pub SomeScriptIsSpelled : Type 0
+SomeScriptIsSpelled = (r : Range) (at : ℕ) → IsSound r → at ≤ r.end → (script_outcome r at).fault ≡ None → (t : Tree) × IsScript r at t

@@ -1,6 +1,8 @@
 ghost use Rattle.tree_decoder.specs.Left.{AreDue, AreOfTree};
 ghost use Rattle.tree_decoder.specs.OneTree.{IsOneTree, ScriptsAreOne};
 ghost use Rattle.tree_decoder.specs.Row.{IsFirstBehindRow};
+ghost use Rattle.tree_decoder.specs.SameTree.{AtomsAreOfOneTree};
+ghost use Rattle.tree_decoder.specs.Script.{SomeScriptIsSpelled};
 
 /// The atoms of each well-typed value whose lazy contents are windows are due one after another where the value is due,
 /// and after them nothing more of it is. It does nothing: its clause is the law.
@@ -30,4 +32,15 @@ pub fn fault_is_first_behind_row()
 /// clause is the law.
 pub fn scripts_are_one()
     ensures { ScriptsAreOne }
+{}
+
+/// Where no fault is found from a place on, some script is spelled there. It does nothing: its clause is the law.
+pub fn some_script_is_spelled()
+    ensures { SomeScriptIsSpelled }
+{}
+
+/// Well-typed trees whose names stand for texts have the same atoms exactly where they are the same, but for the numbers
+/// of names and the places of windows. It does nothing: its clause is the law.
+pub fn atoms_are_of_one_tree()
+    ensures { AtomsAreOfOneTree }
 {}

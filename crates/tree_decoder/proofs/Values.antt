@@ -1,0 +1,168 @@
+-- Where no fault is found, there is a value for each due.
+use Rattle.std.proofs.Common.{ℕ, zero, suc, ◌+◌, ◌-◌, ◌<◌, ◌≤◌, ◌≡◌, Bool, true, false, ◌&&◌, cond, ltb, List, [], ◌∷◌, ◌++◌, Option, Some, None, Result, Ok, Err, refl, sym, subst, arith}
+use Rattle.std.proofs.lemmas.Bool.{ltb-false}
+use Rattle.bast_base.specs.declared.errors.FormatFault.{FormatFault}
+use Rattle.bast_base.specs.declared.errors.Why.TheVariants.{Trailing}
+use Rattle.bast_schema.specs.declared.kind.FieldType.{FieldType}
+use Rattle.bast_schema.specs.declared.kind.FieldType.TheVariants as field
+use Rattle.bast_schema.specs.declared.kind.Kind.{Kind}
+use Rattle.bast_schema.specs.declared.kind.Union.{Union}
+use Rattle.bast_schema.specs.Fields.{fields}
+use Rattle.bast_schema.specs.Kinds.{counted}
+use Rattle.bast_schema.specs.Tree.{Tree, branch, Datum, child, absent, listed, flag, index, whole, name, no_name, choice, window, Data, none, more, item_type}
+use Rattle.container.specs.Answers.{fault, ◌>>=◌}
+use Rattle.tree_decoder.specs.Dues.{Due, due, dues, times, below, children, Taken, taken, atom_of, atom_at}
+use Rattle.tree_decoder.specs.Found.{Found, Run}
+use Rattle.tree_decoder.specs.Numbers.{kind_at, count_at, leaf_at, is_leaf}
+use Rattle.tree_decoder.specs.Outcome.{ends, after, go, outcome_from}
+use Rattle.tree_decoder.specs.Range.{Range, IsSound}
+use Rattle.tree_decoder.specs.Script.{IsScript, script, script_outcome}
+use Rattle.tree_decoder.specs.Windows.{windows_at}
+use Rattle.tree_decoder.proofs.Moves.{kind_moves, count_moves}
+use Rattle.tree_decoder.proofs.Nodes.{kind_stands, node_found, absent_found, list_found}
+use Rattle.tree_decoder.proofs.Runs.{run_none, run_cons}
+use Rattle.tree_decoder.proofs.Scripts.{script_stands}
+use Rattle.tree_decoder.proofs.Single.{leaf_found}
+use Rattle.tree_decoder.proofs.Spells.{bind_ok, is_ok, ok_is}
+
+-- a value for each due, one after another, and nothing after them
+abbrev Each : Range → List Due → ℕ → Type 0
+Each r [] at = r.end ≤ at
+Each r (x ∷ ds) at = (v : Datum) × (next : ℕ) × Found r x.type x.depth x.inside at v next × Each r ds next
+
+abbrev Shallow : List Due → Type 0
+Shallow [] = Unit {0}
+Shallow (x ∷ ds) = (x.depth ≤ 513) × Shallow ds
+
+shallow_dues : (ts : List FieldType) (d : ℕ) (w : Bool) (ds : List Due) → d ≤ 513 → Shallow ds → Shallow (dues ts d w ++ ds)
+shallow_dues [] d w ds small rest = rest
+shallow_dues (t ∷ ts) d w ds small rest = (small, shallow_dues ts d w ds small rest)
+
+-- the values of the first types, and those of the dues after them
+record Split (r : Range) (ts : List FieldType) (d : ℕ) (w : Bool) (ds : List Due) (at : ℕ) : Type 0 where
+  pub values : Data
+  pub next : ℕ
+  pub run : Run r ts d w at values next
+  pub rest : Each r ds next
+
+split : (r : Range) (ts : List FieldType) (d : ℕ) (w : Bool) (ds : List Due) (at : ℕ) → d ≤ 513 → at ≤ r.end → Each r (dues ts d w ++ ds) at → Split r ts d w ds at
+split r [] d w ds at small order each = record { values = none; next = at; run = run_none r d w at small order; rest = each }
+split r (t ∷ ts) d w ds at small order each =
+    let found : Found r t d w at each.0 each.1 = each.2 in
+    let others = split r ts d w ds each.1 small found.within each.3 in
+    record { values = more each.0 others.values; next = others.next; run = run_cons r t ts d w at each.1 others.next each.0 others.values found others.run; rest = others.rest }
+
+-- ---- by the first atom
+
+-- where there are values from each place on that lies ahead
+abbrev Ahead : Range → ℕ → Type 0
+Ahead r n = (ds : List Due) (at : ℕ) → at ≤ r.end → r.end + 1 ≤ n + at → Shallow ds → (go r n ds at).fault ≡ None → Each r ds at
+
+record Here (r : Range) (n d : ℕ) (ds : List Due) (at : ℕ) : Type 0 where
+  pub sound : IsSound r
+  pub order : at ≤ r.end
+  pub enough : r.end + 1 ≤ suc n + at
+  pub small : d ≤ 513
+  pub shallow : Shallow ds
+  pub ahead : Ahead r n
+
+below_small : (c b : Bool) (d : ℕ) → d ≤ 513 → (c && b) ≡ false → (b ≡ false → d ≤ 512) → cond c (d + 1) d ≤ 513
+below_small true b d small e h = let k : d ≤ 512 = h e in omega arith
+below_small false b d small e h = small
+
+node_value : (r : Range) (n : ℕ) (u : Union) (optional : Bool) (d : ℕ) (w : Bool) (ds : List Due) (at : ℕ) (o : Option Kind) (m : ℕ) → Here r n d ds at → kind_at r u optional d w at ≡ Ok (o, m) → (go r n (children o d w ++ ds) m).fault ≡ None → Each r (due (item_type u optional) d w ∷ ds) at
+node_value r n u optional d w ds at (Some k) m here e clear =
+    let stands = kind_stands r u optional d w at k m here.sound here.order e in
+    let moves = kind_moves r u optional d w at (Some k, m) here.sound here.order e in
+    let on : at < m = moves.forward in
+    let enough = here.enough in
+    let small : below k d ≤ 513 = below_small (counted k) (ltb 512 d) d here.small stands.shallow (λ b. ltb-false _ _ b) in
+    let each = here.ahead (dues (fields k) (below k d) w ++ ds) m moves.within (omega arith) (shallow_dues (fields k) (below k d) w ds small here.shallow) clear in
+    let parts = split r (fields k) (below k d) w ds m small moves.within each in
+    (child (branch k parts.values), parts.next, node_found r u optional d w at k m parts.values parts.next here.sound here.order here.small e parts.run, parts.rest)
+node_value r n u optional d w ds at None m here e clear =
+    let moves = kind_moves r u optional d w at (None, m) here.sound here.order e in
+    let on : at < m = moves.forward in
+    let enough = here.enough in
+    (absent, m, absent_found r u optional d w at m here.sound here.order here.small e, here.ahead ds m moves.within (omega arith) here.shallow clear)
+
+-- what is true of an atom, of what it puts and the place after it
+abbrev NoneAfter : Range → ℕ → List Due → Taken → Type 0
+NoneAfter r n ds y = (go r n (y.puts ++ ds) y.next).fault ≡ None
+
+by_kind : (r : Range) (n : ℕ) (u : Union) (optional : Bool) (d : ℕ) (w : Bool) (ds : List Due) (at : ℕ) (y : Taken) → Here r n d ds at → (kind_at r u optional d w at >>= λ k. is_ok (taken (children k.0 d w) [] k.1)) ≡ Ok y → NoneAfter r n ds y → Each r (due (item_type u optional) d w ∷ ds) at
+by_kind r n u optional d w ds at y here e clear =
+    let b = bind_ok (kind_at r u optional d w at) (λ k. is_ok (taken (children k.0 d w) [] k.1)) y e in
+    node_value r n u optional d w ds at b.0.0 b.0.1 here b.1 (subst (NoneAfter r n ds) (sym (ok_is _ _ b.2)) clear)
+
+list_value : (r : Range) (n : ℕ) (u : Union) (holes filled : Bool) (d : ℕ) (w : Bool) (ds : List Due) (at i m : ℕ) → Here r n d ds at → count_at r filled at ≡ Ok (i, m) → (go r n (dues (times i (item_type u holes)) d w ++ ds) m).fault ≡ None → Each r (due (field.List u holes filled) d w ∷ ds) at
+list_value r n u holes filled d w ds at i m here e clear =
+    let moves = count_moves r filled at (i, m) here.sound here.order e in
+    let on : at < m = moves.forward in
+    let enough = here.enough in
+    let each = here.ahead (dues (times i (item_type u holes)) d w ++ ds) m moves.within (omega arith) (shallow_dues (times i (item_type u holes)) d w ds here.small here.shallow) clear in
+    let parts = split r (times i (item_type u holes)) d w ds m here.small moves.within each in
+    (listed parts.values, parts.next, list_found r u holes filled d w at i m parts.values parts.next here.sound here.order e parts.run, parts.rest)
+
+by_count : (r : Range) (n : ℕ) (u : Union) (holes filled : Bool) (d : ℕ) (w : Bool) (ds : List Due) (at : ℕ) (y : Taken) → Here r n d ds at → (count_at r filled at >>= λ i. is_ok (taken (dues (times i.0 (item_type u holes)) d w) [] i.1)) ≡ Ok y → NoneAfter r n ds y → Each r (due (field.List u holes filled) d w ∷ ds) at
+by_count r n u holes filled d w ds at y here e clear =
+    let b = bind_ok (count_at r filled at) (λ i. is_ok (taken (dues (times i.0 (item_type u holes)) d w) [] i.1)) y e in
+    list_value r n u holes filled d w ds at b.0.0 b.0.1 here b.1 (subst (NoneAfter r n ds) (sym (ok_is _ _ b.2)) clear)
+
+by_leaf : (r : Range) (n : ℕ) (t : FieldType) (d : ℕ) (w : Bool) (ds : List Due) (at : ℕ) (y : Taken) → Here r n d ds at → is_leaf t ≡ true → (leaf_at r t at >>= λ v. is_ok (taken [] (windows_at v.0) v.1)) ≡ Ok y → NoneAfter r n ds y → Each r (due t d w ∷ ds) at
+by_leaf r n t d w ds at y here leaf e clear =
+    let b = bind_ok (leaf_at r t at) (λ v. is_ok (taken [] (windows_at v.0) v.1)) y e in
+    let found = leaf_found r t d w at b.0 here.sound here.order here.small leaf b.1 in
+    let on : at < b.0.1 = found.forward in
+    let enough = here.enough in
+    (b.0.0, b.0.1, found, here.ahead ds b.0.1 found.within (omega arith) here.shallow (subst (NoneAfter r n ds) (sym (ok_is _ _ b.2)) clear))
+
+by_type : (r : Range) (n : ℕ) (t : FieldType) (d : ℕ) (w : Bool) (ds : List Due) (at : ℕ) (y : Taken) → Here r n d ds at → atom_of r t d w at ≡ Ok y → NoneAfter r n ds y → Each r (due t d w ∷ ds) at
+by_type r n (field.Node u) d w ds at y here e clear = by_kind r n u false d w ds at y here e clear
+by_type r n (field.Optional u) d w ds at y here e clear = by_kind r n u true d w ds at y here e clear
+by_type r n (field.List u holes filled) d w ds at y here e clear = by_count r n u holes filled d w ds at y here e clear
+by_type r n field.Bool d w ds at y here e clear = by_leaf r n field.Bool d w ds at y here refl e clear
+by_type r n field.Index d w ds at y here e clear = by_leaf r n field.Index d w ds at y here refl e clear
+by_type r n field.Whole d w ds at y here e clear = by_leaf r n field.Whole d w ds at y here refl e clear
+by_type r n field.Text d w ds at y here e clear = by_leaf r n field.Text d w ds at y here refl e clear
+by_type r n field.Name d w ds at y here e clear = by_leaf r n field.Name d w ds at y here refl e clear
+by_type r n field.Label d w ds at y here e clear = by_leaf r n field.Label d w ds at y here refl e clear
+by_type r n (field.Choice set) d w ds at y here e clear = by_leaf r n (field.Choice set) d w ds at y here refl e clear
+by_type r n (field.Lazy u) d w ds at y here e clear = by_leaf r n (field.Lazy u) d w ds at y here refl e clear
+
+-- ---- atom after atom
+
+each_after : (r : Range) (n : ℕ) (x : Due) (ds : List Due) (at : ℕ) (m : Result Taken FormatFault) → atom_at r x at ≡ m → Here r n x.depth ds at → (after (go r n) ds m).fault ≡ None → Each r (x ∷ ds) at
+each_after r n x ds at (Err f) is here clear = absurd cc
+each_after r n x ds at (Ok y) is here clear = by_type r n x.type x.depth x.inside ds at y here is clear
+
+all_passed : (r : Range) (at : ℕ) (b : Bool) → ltb at r.end ≡ b → (cond b (ends (Some (fault at Trailing))) (ends None)).fault ≡ None → r.end ≤ at
+all_passed r at true is clear = absurd cc
+all_passed r at false is clear = ltb-false _ _ is
+
+each : (r : Range) (n : ℕ) → IsSound r → Ahead r n
+each r zero sound [] at order enough shallow clear = all_passed r at (ltb at r.end) refl clear
+each r (suc n) sound [] at order enough shallow clear = all_passed r at (ltb at r.end) refl clear
+each r zero sound (x ∷ ds) at order enough shallow clear = absurd (omega arith)
+each r (suc n) sound (x ∷ ds) at order enough shallow clear =
+    each_after r n x ds at (atom_at r x at) refl (record { sound = sound; order = order; enough = enough; small = shallow.0; shallow = shallow.1; ahead = each r n sound }) clear
+
+-- ---- a script
+
+one_node : (r : Range) (at : ℕ) (v : Datum) (next : ℕ) → Found r script 1 false at v next → r.end ≤ next → (t : Tree) × IsScript r at t
+one_node r at (child t) next found all = (t, script_stands r at t next found all)
+one_node r at absent next found all = let bad : false ≡ true = found.fits in absurd cc
+one_node r at (listed ds) next found all = let bad : false ≡ true = found.fits in absurd cc
+one_node r at (flag b) next found all = let bad : false ≡ true = found.fits in absurd cc
+one_node r at (index n) next found all = let bad : false ≡ true = found.fits in absurd cc
+one_node r at (whole n) next found all = let bad : false ≡ true = found.fits in absurd cc
+one_node r at (name n) next found all = let bad : false ≡ true = found.fits in absurd cc
+one_node r at no_name next found all = let bad : false ≡ true = found.fits in absurd cc
+one_node r at (choice n) next found all = let bad : false ≡ true = found.fits in absurd cc
+one_node r at (window from to) next found all = let bad : false ≡ true = found.fits in absurd cc
+
+pub script_there : (r : Range) (at : ℕ) → IsSound r → at ≤ r.end → (script_outcome r at).fault ≡ None → (t : Tree) × IsScript r at t
+unfolding outcome_from
+script_there r at sound order clear =
+    let one = each r (r.end + 1 - at) sound (due script 1 false ∷ []) at order (omega arith) (omega arith, tt) clear in
+    one_node r at one.0 one.1 one.2 one.3
