@@ -1,22 +1,23 @@
--- What a source is encoded to is accepted, and is read as the tree of the source with exact scopes.
+-- What a source is encoded to is read whole, as the tree of the source with exact scopes.
 use Rattle.std.proofs.Common.{◌≡◌, ℕ, zero, suc, ◌<◌, ◌≤◌, ◌&&◌, not, Bool, true, false, List, [], ◌∷◌, map, length, nat_le, get_or, slice_get, Option, Some, None, Ok, refl, subst, sym, ap, ◌∙◌, if◌then◌else◌, arith}
 use Rattle.std.proofs.lemmas.Bool.Decides.{nat_tests}
 use Rattle.std.specs.List.{All, list_all}
-use Rattle.std.specs.Prelude.{slice_range}
-use Rattle.bast_base.specs.declared.errors.FormatFault.{FormatFault}
 use Rattle.bast_schema.specs.Counts.{is_whole}
 use Rattle.bast_schema.specs.Eager.{is_eager, is_eager_at, are_eager}
 use Rattle.bast_schema.specs.Fields.{has_lazy}
+use Rattle.bast_schema.specs.Held.{Held}
 use Rattle.bast_schema.specs.NamesHold.{names_hold, names_hold_at, names_hold_in}
 use Rattle.bast_schema.specs.Tree.{Tree, branch, Datum, child, listed, Data, none, more, typed}
 use Rattle.bast_schema.proofs.Both.{and_first, and_second, both}
 use Rattle.container.specs.Atoms.{Atom, atoms}
 use Rattle.container.specs.InFile.{InFile, has_atom, is_unnested}
-use Rattle.container.specs.IsContainer.{IsFileOf, tables}
+use Rattle.container.specs.Layout.{layout_of}
+use Rattle.container.specs.IsContainer.{layout_in}
 use Rattle.container.specs.Spelled.{spelled}
 use Rattle.container.specs.Tables.{Tables}
 use Rattle.container.specs.declared.layout.Layout.{Layout}
-use Rattle.container.proofs.ReadBack.{one_reading}
+use Rattle.container.proofs.LayoutSpelled.{layout_is_container}
+use Rattle.container.proofs.ReadBack.{layout_read}
 use Rattle.early_errors.specs.Early.{early, first}
 use Rattle.early_errors.specs.Laws.{unnumbered, KeepsTexts, renamed_violation}
 use Rattle.early_errors.specs.Strict.{text_among}
@@ -36,29 +37,30 @@ use Rattle.scope_facts.proofs.BareSame.{bare_of_exact}
 use Rattle.scope_facts.proofs.BareTyped.{bare_typed}
 use Rattle.scope_facts.proofs.ExactOfBare.{exact_of_bare}
 use Rattle.scope_facts.proofs.RenamedExact.{exact_renamed}
-use Rattle.scope_facts.proofs.RenamedTyped.{kind_renamed, typed_renamed}
-use Rattle.tree_decoder.specs.Found.{is_text}
-use Rattle.tree_decoder.specs.Outer.{tree_range}
-use Rattle.tree_decoder.specs.Range.{held}
-use Rattle.tree_decoder.specs.Script.{IsScript}
-use Rattle.tree_decoder.proofs.OneScript.{one_script}
-use Rattle.tree_encoder.specs.File.{texts_held}
-use Rattle.binast_run.specs.Answer.{Answer, output, refusal, most_bytes}
-use Rattle.binast_run.specs.Judging.{first_violation}
+use Rattle.scope_facts.proofs.RenamedTyped.{typed_renamed}
 use Rattle.tree_decoder.specs.LazyKinds.{is_eager_kind, first_lazy, kinds_of, kinds_at, kinds_in}
-use Rattle.binast_run.specs.Laws.{IsExactTreeOf, IsOutputOfTree}
-use Rattle.binast_run.specs.Lines.{large_file_line}
-use Rattle.tree_decoder.specs.Reading.{first_fault, IsFileOfScript}
-use Rattle.binast_run.specs.Result.{AnswersFile, faulty, read, judged}
-use Rattle.binast_run.specs.SourceLines.{source_line, violation_text}
-use Rattle.binast_run.specs.Sources.{AnswersSource, no_text, no_tree, has_tree, script, source_file, early_answer}
-use Rattle.binast_run.proofs.EagerKept.{exact_eager}
+use Rattle.tree_decoder.specs.Outer.{tree_range}
+use Rattle.tree_decoder.specs.Reading.{fault_in, first_fault, tree_fault, IsFileOfScript}
+use Rattle.tree_decoder.specs.WholeReading.{IsWhole, whole}
 use Rattle.tree_decoder.proofs.EagerWhole.{eager_is_whole}
-use Rattle.tree_decoder.proofs.InGrammar.{in_grammar-accepted}
+use Rattle.tree_decoder.proofs.EveryFile.{file_there}
+use Rattle.tree_decoder.proofs.InGrammar.{in_grammar-accepted, read-in_grammar}
 use Rattle.tree_decoder.proofs.LazyAtoms.{eager_read, joined, none_other}
+use Rattle.tree_decoder.proofs.OneFile.{file_of, one_tree_in_file}
+use Rattle.tree_decoder.proofs.OneTable.{one_over}
+use Rattle.tree_decoder.proofs.SameTree.{atoms_same, same_tree}
+use Rattle.tree_decoder.proofs.WholeReadings.{one_whole}
+use Rattle.tree_encoder.specs.File.{texts_held}
+use Rattle.violations.specs.Violations.{first_violation, name_in, script}
+use Rattle.binast_run.specs.Answer.{Answer, output, refusal, most_bytes}
+use Rattle.binast_run.specs.FileAnswers.{answer_of, AnswersFile}
+use Rattle.binast_run.specs.Laws.{IsExactTreeOf, IsReadBack}
+use Rattle.binast_run.specs.Lines.{large_file_line}
+use Rattle.binast_run.specs.SourceLines.{source_line, violation_text}
+use Rattle.binast_run.specs.Sources.{AnswersSource, no_text, no_tree, has_tree, source_file, early_answer}
+use Rattle.binast_run.proofs.EagerKept.{exact_eager}
 use Rattle.binast_run.proofs.Matching.{matched, matched_apart, is_matched_text, matched_texts, matched_there, matched_eval}
-use Rattle.tree_decoder.proofs.OneFile.{file_of}
-use Rattle.binast_run.proofs.RenamedSpelled.{SameTexts, spelled_renamed, atoms_renamed, stands_renamed, eager_folded, whole_windows, whole_renamed, depth_renamed, matched_tree}
+use Rattle.binast_run.proofs.RenamedTree.{SameTexts, same_renamed, named_renamed, whole_renamed, matched_tree}
 use Rattle.binast_run.proofs.SourceFacts.{SourceFacts, source_facts}
 use Rattle.js_parser.specs.Source.{IsSource}
 
@@ -81,7 +83,7 @@ file_bytes true made bytes s e = let same : bytes ≡ made = sym (ap (λ (a : An
 file_bytes false made bytes s e = refused large_file_line bytes e
 
 file_in : (texts : List (Option (List ℕ))) (t : Tree) (o : Option Violation) (bytes : List ℕ) → first (early texts script t) ≡ o → early_answer texts t o ≡ output bytes → FileOf texts t bytes
-file_in texts t (Some v) bytes f e = refused (source_line (violation_text texts v)) bytes e
+file_in texts t (Some v) bytes f e = refused (source_line (violation_text v (name_in texts v))) bytes e
 file_in texts t None bytes f e =
     let b = file_bytes (nat_le (length (source_file texts t)) most_bytes) (source_file texts t) bytes refl e
     in record { early = first_none (early texts script t) f; bytes_are = b.0; small = b.1 }
@@ -166,64 +168,47 @@ get_is (x ∷ xs) (suc n) = get_is xs n
 same_texts : (texts strings : List (Option (List ℕ))) (n : ℕ) → is_matched_text texts strings n ≡ true → get_or strings (matched texts strings n) None ≡ get_or texts n None
 same_texts texts strings n h = get_is strings (matched texts strings n) ∙ ap entry_or (matched_texts texts strings n h) ∙ sym (get_is texts n)
 
-are_texts : (texts strings : List (Option (List ℕ))) (n : ℕ) → is_matched_text texts strings n ≡ true → is_text (slice_get strings (matched texts strings n)) ≡ true
-are_texts texts strings n h = let t = matched_there texts strings n h in ap is_text t.1
-
 -- what the file of a source is read as
 
 record ReadAs (texts : List (Option (List ℕ))) (t : Tree) (l : Layout) (bytes : List ℕ) (u : Tree) : Type 0 where
   is : u ≡ exact l.strings (renamed (matched texts l.strings) (bare t))
   first : first_lazy u ≡ None
   names : names_hold (is_matched_text texts l.strings) (bare t) ≡ true
-  atoms : atoms (held (tree_range bytes l)) u ≡ atoms (texts_held texts) (exact texts t)
+  atoms : atoms (record { texts = l.strings; tape = bytes }) u ≡ atoms (texts_held texts) (exact texts t)
 
-read_as : (texts : List (Option (List ℕ))) (t : Tree) (bytes : List ℕ) (l : Layout) (u : Tree) → SourceFacts texts t → InFile bytes (texts_held texts) (exact texts t) → IsFileOfScript bytes l u → ReadAs texts t l bytes u
-read_as texts t bytes l u facts file was =
+read_as : (texts : List (Option (List ℕ))) (t : Tree) (bytes : List ℕ) (l : Layout) (u : Tree) → All (λ byte. byte < 256) bytes → SourceFacts texts t → InFile bytes (texts_held texts) (exact texts t) → IsFileOfScript bytes l u → ReadAs texts t l bytes u
+read_as texts t bytes l u bytes_small facts file was =
     let x = exact texts t
     in let h = texts_held texts
-    in let r = tree_range bytes l
+    in let g : Held = record { texts = l.strings; tape = bytes }
     in let strings = l.strings
     in let number = matched texts strings
     in let p = is_matched_text texts strings
-    in let slice = slice_range bytes l.from l.to
-    in let made : IsFileOf (tables l) slice bytes = record {
-      distinct_kinds = was.made.distinct_kinds;
-      distinct_texts = was.made.distinct_texts;
-      entries = was.made.entries;
-      spelling = was.made.spelling;
-    }
-    in let same = one_reading file.tables (tables l) (spelled file.tables h x) slice bytes (file_of bytes h x file) made file.small
+    in let made = layout_is_container bytes l bytes_small was.container
     in let both_typed = and_first (typed x && is_whole x) (is_unnested x) file.typed_whole
     in let typed_x = and_first (typed x) (is_whole x) both_typed
     in let whole_x = and_second (typed x) (is_whole x) both_typed
-    in let eager_x = exact_eager texts t facts.eager
-    in let has : list_all (has_atom (tables l)) (atoms h x) ≡ true = subst (λ (s : Tables). list_all (has_atom s) (atoms h x) ≡ true) same.0 file.has_all
-    in let names_x = matched_tree (tables l) texts x typed_x file.named has
-    in let same_text : SameTexts number p h (held r) = same_texts texts strings
-    in let lazy_x : first_lazy x ≡ None = none_other 0 (kinds_of x) (eager_kinds x eager_x)
-    in let lazy_u : first_lazy u ≡ None = eager_read bytes h x l u file lazy_x was
-    in let whole_u = eager_is_whole u was.script.typed lazy_u
-    in let atoms_x : atoms (held r) (renamed number x) ≡ atoms h x = atoms_renamed number p h (held r) same_text x names_x whole_x
-    in let is_script : IsScript r l.from (renamed number x) = record {
-      spelled = sym same.1 ∙ ap (λ (s : Tables). spelled s h x) same.0 ∙ sym (spelled_renamed (tables l) number p h (held r) same_text x names_x whole_x);
-      kind = kind_renamed number x ∙ file.script;
-      typed = typed_renamed number x ∙ typed_x;
-      shallow = subst (λ (n : ℕ). n ≤ 512) (sym (depth_renamed number x)) file.shallow;
-      stands = stands_renamed r number p (are_texts texts strings) x names_x whole_x;
-      has_all = subst (λ (as1 : List Atom). list_all (has_atom (tables l)) as1 ≡ true) (sym atoms_x) has;
-      folded = eager_folded number x eager_x;
-      outcome = was.script.outcome ∙ ap (λ ws. record { windows = ws; fault = None }) (whole_windows u whole_u ∙ sym (whole_windows (renamed number x) (whole_renamed number x ∙ whole_x)));
-    }
-    in let u_is : renamed number x ≡ u = one_script r l.from (renamed number x) u was.made.distinct_texts is_script was.script
+    in let lazy_x : first_lazy x ≡ None = none_other 0 (kinds_of x) (eager_kinds x (exact_eager texts t facts.eager))
+    in let lazy_u : first_lazy u ≡ None = eager_read bytes h x l u bytes_small file lazy_x was
+    in let in_file = read-in_grammar bytes l u file.small bytes_small was (eager_is_whole u was.script.typed lazy_u)
+    in let atoms_u : atoms g u ≡ atoms h x = sym (one_tree_in_file bytes h g x u file in_file.0)
+    in let has : list_all (has_atom in_file.0.tables) (atoms h x) ≡ true = subst (λ (as1 : List Atom). list_all (has_atom in_file.0.tables) as1 ≡ true) atoms_u in_file.0.has_all
+    in let names_x : names_hold p x ≡ true = subst (λ (ts : List (Option (List ℕ))). names_hold (is_matched_text texts ts) x ≡ true) in_file.1 (matched_tree in_file.0.tables texts x typed_x file.named has)
+    in let same_text : SameTexts number p h g = same_texts texts strings
+    in let atoms_x : atoms g (renamed number x) ≡ atoms h x = atoms_same g h (renamed number x) x (same_renamed number p h g same_text x names_x whole_x)
+    in let named_x = named_renamed number p h g same_text x names_x file.named
+    in let u_is : renamed number x ≡ u =
+    one_over g made.distinct_texts (renamed number x) u named_x (whole_renamed number x ∙ whole_x)
+    (same_tree g g (renamed number x) u (typed_renamed number x ∙ typed_x) was.script.typed named_x in_file.0.named (atoms_x ∙ sym atoms_u))
     in let plain = bare t
     in let names_plain : names_hold p plain ≡ true = subst (λ (v : Tree). names_hold p v ≡ true) (bare_of_exact texts t) (names_of_bare p x names_x)
     in let apart = matched_apart texts strings facts.distinct
     in record {
       is = sym u_is ∙ ap (renamed number) (sym (exact_of_bare texts t facts.typed facts.eager))
-          ∙ sym (exact_renamed number apart p texts strings (matched_eval texts strings facts.distinct was.made.distinct_texts) plain names_plain);
+          ∙ sym (exact_renamed number apart p texts strings (matched_eval texts strings facts.distinct made.distinct_texts) plain names_plain);
       first = lazy_u;
       names = names_plain;
-      atoms = ap (atoms (held r)) (sym u_is) ∙ atoms_x;
+      atoms = atoms_u;
     }
 
 -- and no rule is broken there
@@ -233,11 +218,11 @@ no_more [] [] e f = refl
 no_more [] (y ∷ ys) e f = absurd cc
 no_more (x ∷ xs) ys e f = absurd cc
 
-none_found : (strings : List (Option (List ℕ))) (u : Tree) → early strings script u ≡ [] → untrue strings script u ≡ [] → first_violation strings u ≡ None
+none_found : (strings : List (Option (List ℕ))) (u : Tree) → early strings script u ≡ [] → untrue strings script u ≡ [] → first_violation strings script u ≡ None
 none_found strings u e f = rw (e, f) refl
 
 sound : (texts strings : List (Option (List ℕ))) (t : Tree) → SourceFacts texts t → names_hold (is_matched_text texts strings) (bare t) ≡ true → early texts script t ≡ []
-    → first_violation strings (exact strings (renamed (matched texts strings) (bare t))) ≡ None
+    → first_violation strings script (exact strings (renamed (matched texts strings) (bare t))) ≡ None
 sound texts strings t facts names none_early =
     let number = matched texts strings
     in let plain = renamed number (bare t)
@@ -249,39 +234,38 @@ sound texts strings t facts names none_early =
     in let bare_plain : early strings script (bare plain) ≡ [] = no_more (early strings script plain) (early strings script (bare plain)) (own_scopes_break_no_rule strings script plain typed_plain) plain_early
     in none_found strings (exact strings plain) ((early_of_exact strings script plain typed_plain).there bare_plain) (exact_is_true strings script plain refl typed_plain)
 
-answered : (strings : List (Option (List ℕ))) (u : Tree) (text : List ℕ) → first_lazy u ≡ None → first_violation strings u ≡ None → judged strings u text ≡ output text
-answered strings u text e f = rw (e, f) refl
-
--- the two laws
-
-pub holds_its_tree : (input bytes : List ℕ) (l : Layout) (u : Tree) → AnswersSource input (output bytes) → IsFileOfScript bytes l u → IsExactTreeOf input bytes l u
-holds_its_tree input bytes l u source was =
-    let e = encoded input bytes (output bytes) source refl
-    in let facts = source_facts input e.texts e.tree e.source
-    in let as1 = read_as e.texts e.tree bytes l u facts e.spelled was
-    in record {
-      texts = e.texts;
-      tree = e.tree;
-      number = matched e.texts l.strings;
-      source = e.source;
-      apart = matched_apart e.texts l.strings facts.distinct;
-      is = as1.is;
-      same = as1.atoms;
-    }
-
-no_fault : {A : Type 0} (bytes : List ℕ) (f : FormatFault) → first_fault bytes ≡ Some f → first_fault bytes ≡ None → A
-no_fault bytes f e g = let bad : Some f ≡ None = sym e ∙ g in absurd cc
-
 from_test : (n m : ℕ) → nat_le n m ≡ true → n ≤ m
 from_test n m e = grind (arith, nat_tests)
 
-accepted_by : (input bytes : List ℕ) (text : Layout → Tree → List ℕ) (a : Answer) → All (λ byte. byte < 256) bytes → Encoded input bytes → AnswersFile bytes text a → IsOutputOfTree bytes text a
-accepted_by input bytes text _ small e (faulty f is) = no_fault bytes f is (in_grammar-accepted bytes (texts_held e.texts) (exact e.texts e.tree) (from_test (length bytes) most_bytes e.file.small) small e.spelled)
-accepted_by input bytes text _ small e (read l u file) =
-    let facts = source_facts input e.texts e.tree e.source
-    in let as1 = read_as e.texts e.tree bytes l u facts e.spelled file
-    in let found : first_violation l.strings u ≡ None = ap (first_violation l.strings) as1.is ∙ sound e.texts l.strings e.tree facts as1.names e.file.early
-    in record { layout = l; tree = u; read = file; is = answered l.strings u (text l u) as1.first found }
+-- the law
 
-pub is_accepted : (input bytes : List ℕ) (text : Layout → Tree → List ℕ) (a : Answer) → All (λ byte. byte < 256) bytes → AnswersSource input (output bytes) → AnswersFile bytes text a → IsOutputOfTree bytes text a
-is_accepted input bytes text a small source answer = accepted_by input bytes text a small (encoded input bytes (output bytes) source refl) answer
+read_back : (input bytes : List ℕ) → All (λ byte. byte < 256) bytes → Encoded input bytes → IsReadBack input bytes
+read_back input bytes small e =
+    let facts = source_facts input e.texts e.tree e.source
+    in let x = exact e.texts e.tree
+    in let h = texts_held e.texts
+    in let short = from_test (length bytes) most_bytes e.file.small
+    in let none : first_fault bytes ≡ None = in_grammar-accepted bytes h x short small e.spelled
+    in let tree = spelled e.spelled.tables h x
+    in let l = layout_in e.spelled.tables tree bytes
+    in let at : layout_of bytes ≡ Ok l = (layout_read e.spelled.tables tree bytes (file_of bytes h x e.spelled) e.spelled.small).0
+    in let there = file_there bytes l short small at (sym (ap (fault_in bytes) at) ∙ none)
+    in let as1 = read_as e.texts e.tree bytes l there.0 small facts e.spelled there.1
+    in let found : first_violation l.strings script there.0 ≡ None = ap (first_violation l.strings script) as1.is ∙ sound e.texts l.strings e.tree facts as1.names e.file.early
+    in record {
+      strings = l.strings;
+      read = there.0;
+      whole = (record { layout = l; file = there.1; texts_are = refl }, as1.first, found);
+      exact = record {
+        texts = e.texts;
+        tree = e.tree;
+        number = matched e.texts l.strings;
+        source = e.source;
+        apart = matched_apart e.texts l.strings facts.distinct;
+        is = as1.is;
+        same = as1.atoms;
+      };
+    }
+
+pub is_read_back : (input bytes : List ℕ) → All (λ byte. byte < 256) bytes → AnswersSource input (output bytes) → IsReadBack input bytes
+is_read_back input bytes small source = read_back input bytes small (encoded input bytes (output bytes) source refl)

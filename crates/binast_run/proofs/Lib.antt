@@ -7,7 +7,7 @@ pub mod NamedTrees
 pub mod OneAnswer
 pub mod OutputLemmas
 pub mod Outputs
-pub mod RenamedSpelled
+pub mod RenamedTree
 pub mod SizeSpelled
 pub mod SourceAnswers
 pub mod SourceFacts

@@ -1,53 +1,54 @@
--- What holds of every file that is read, and of every answer.
-use Rattle.std.specs.Prelude.{◌≡◌, ℕ, ◌<◌, ◌≤◌, ◌^◌, List, [], length, IsTrue, Option, None, Ok}
+-- What holds of every answer.
+use Rattle.std.specs.Prelude.{◌≡◌, ℕ, ◌<◌, ◌≤◌, List, [], length, Option, Ok}
 use Rattle.std.specs.List.{All}
-use Rattle.bast_schema.specs.Counts.{is_whole}
-use Rattle.bast_schema.specs.Held.{Held}
 use Rattle.bast_schema.specs.Tree.{Tree}
-use Rattle.container.specs.declared.layout.Layout.{Layout}
 use Rattle.container.specs.Atoms.{atoms}
-use Rattle.container.specs.InFile.{InFile}
 use Rattle.binast_run.specs.declared.command.Command.{Command}
-use Rattle.tree_decoder.specs.LazyKinds.{first_lazy}
-use Rattle.tree_decoder.specs.Reading.{first_fault, IsFileOfScript}
-use Rattle.binast_run.specs.Answer.{Answer, output}
-use Rattle.binast_run.specs.Result.{AnswersFile, AnswersInput}
+use Rattle.binast_run.specs.Answer.{Answer, most_bytes, output}
+use Rattle.binast_run.specs.FileAnswers.{AnswersFile}
+use Rattle.binast_run.specs.Result.{AnswersInput}
 use Rattle.binast_run.specs.Sources.{AnswersSource}
 use Rattle.js_parser.specs.Source.{IsSource}
 use Rattle.scope_facts.specs.Bare.{bare}
 use Rattle.scope_facts.specs.Exact.{exact}
 use Rattle.scope_facts.specs.Renamed.{IsInjective, renamed}
-use Rattle.tree_decoder.specs.Outer.{tree_range}
-use Rattle.tree_decoder.specs.Range.{held}
+use Rattle.tree_decoder.specs.FileLaws.{IsSoundFile}
+use Rattle.tree_decoder.specs.WholeReading.{IsWhole, whole}
 use Rattle.tree_encoder.specs.File.{texts_held}
 
 -- an input has one answer of each command
 abbrev pub InputsHaveOneAnswer : Type 0
 InputsHaveOneAnswer = (command : Command) (input : List ℕ) (a b : Answer) → AnswersInput command input a → AnswersInput command input b → a ≡ b
 
--- The tree that a file is read as is the exact tree of a source's tree, with the file's numbers for its names: it has the
--- kinds, counts, numbers and texts of the exact tree over the source's own texts.
-pub record IsExactTreeOf (input bytes : List ℕ) (l : Layout) (u : Tree) : Type 0 where
+-- The answer to a file is an output exactly where the file is in the grammar, and spells a tree without lazy functions in
+-- which no rule fails: it is then the output of that tree.
+pub record IsOutputExactly (bytes : List ℕ) (text : List (Option (List ℕ)) → Tree → List ℕ) (a : Answer) : Type 0 where
+  pub output : a.status ≡ 0 → (texts : List (Option (List ℕ))) × (t : Tree) × IsSoundFile bytes texts t × (a ≡ output (text texts t))
+  pub only : (texts : List (Option (List ℕ))) (t : Tree) → IsSoundFile bytes texts t → a ≡ output (text texts t)
+
+abbrev pub FilesAreAnsweredExactly : Type 0
+FilesAreAnsweredExactly =
+    (bytes : List ℕ) (text : List (Option (List ℕ)) → Tree → List ℕ) (a : Answer) → length bytes ≤ most_bytes → All (λ byte. byte < 256) bytes
+    → AnswersFile bytes text a → IsOutputExactly bytes text a
+
+-- The tree is the exact tree of a source's tree, with a file's numbers for its names: it has the kinds, counts, numbers and
+-- texts of the exact tree over the source's own texts.
+pub record IsExactTreeOf (input bytes : List ℕ) (strings : List (Option (List ℕ))) (u : Tree) : Type 0 where
   pub texts : List (Option (List ℕ))
   pub tree : Tree
   pub number : ℕ → ℕ
   pub source : IsSource input [] texts (Ok tree)
   pub apart : IsInjective number
-  pub is : u ≡ exact l.strings (renamed number (bare tree))
-  pub same : atoms (held (tree_range bytes l)) u ≡ atoms (texts_held texts) (exact texts tree)
+  pub is : u ≡ exact strings (renamed number (bare tree))
+  pub same : atoms (record { texts = strings; tape = bytes }) u ≡ atoms (texts_held texts) (exact texts tree)
 
--- what a source is encoded to is read as its tree with exact scopes
-abbrev pub EncodedFilesHoldTheirTree : Type 0
-EncodedFilesHoldTheirTree = (input bytes : List ℕ) (l : Layout) (u : Tree) → AnswersSource input (output bytes) → IsFileOfScript bytes l u → IsExactTreeOf input bytes l u
+-- the file is read whole, as the exact tree of the source's tree: it breaks no rule, and its scopes say nothing untrue
+pub record IsReadBack (input bytes : List ℕ) : Type 0 where
+  pub strings : List (Option (List ℕ))
+  pub read : Tree
+  pub whole : IsWhole bytes (whole strings read)
+  pub exact : IsExactTreeOf input bytes strings read
 
--- the answer to a file is the output that its tree gives
-pub record IsOutputOfTree (bytes : List ℕ) (text : Layout → Tree → List ℕ) (a : Answer) : Type 0 where
-  pub layout : Layout
-  pub tree : Tree
-  pub read : IsFileOfScript bytes layout tree
-  pub is : a ≡ output (text layout tree)
-
--- what a source is encoded to is accepted by each command that reads files: no early error, and nothing untrue in its scopes
-abbrev pub EncodedFilesAreAccepted : Type 0
-EncodedFilesAreAccepted =
-    (input bytes : List ℕ) (text : Layout → Tree → List ℕ) (a : Answer) → All (λ byte. byte < 256) bytes → AnswersSource input (output bytes) → AnswersFile bytes text a → IsOutputOfTree bytes text a
+-- what a source is encoded to is read back
+abbrev pub EncodedFilesAreReadBack : Type 0
+EncodedFilesAreReadBack = (input bytes : List ℕ) → All (λ byte. byte < 256) bytes → AnswersSource input (output bytes) → IsReadBack input bytes

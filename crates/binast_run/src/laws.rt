@@ -1,17 +1,19 @@
 // What holds of the definitions alone.
-ghost use Rattle.binast_run.specs.Laws.{EncodedFilesAreAccepted, EncodedFilesHoldTheirTree, InputsHaveOneAnswer};
+ghost use Rattle.binast_run.specs.Laws.{EncodedFilesAreReadBack, FilesAreAnsweredExactly, InputsHaveOneAnswer};
 
 /// An input has one answer of each command.
 pub fn inputs_have_one_answer()
     ensures { InputsHaveOneAnswer }
 {}
 
-/// What a source is encoded to is read as its tree with exact scopes.
-pub fn encoded_files_hold_their_tree()
-    ensures { EncodedFilesHoldTheirTree }
+/// The answer to a file is an output exactly where the file is in the grammar of files, and spells a tree without lazy
+/// functions in which no rule fails: it is then the output of that tree.
+pub fn files_are_answered_exactly()
+    ensures { FilesAreAnsweredExactly }
 {}
 
-/// What a source is encoded to is accepted: it breaks no early error, and its scopes say nothing untrue.
-pub fn encoded_files_are_accepted()
-    ensures { EncodedFilesAreAccepted }
+/// What a source is encoded to is read whole, as the source's tree with exact scopes: it breaks no early error, and its
+/// scopes say nothing untrue.
+pub fn encoded_files_are_read_back()
+    ensures { EncodedFilesAreReadBack }
 {}

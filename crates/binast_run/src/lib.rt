@@ -23,6 +23,6 @@ mod tests;
 pub use gate::{Gate, Idle};
 pub use in_memory::run_in_memory;
 pub use laws::{
-    encoded_files_are_accepted, encoded_files_hold_their_tree, inputs_have_one_answer,
+    encoded_files_are_read_back, files_are_answered_exactly, inputs_have_one_answer,
 };
 pub use program::run;

@@ -6,13 +6,19 @@ use Rattle.bast_schema.specs.Counts.{is_whole}
 use Rattle.bast_schema.specs.Held.{Held}
 use Rattle.bast_schema.specs.Tree.{Tree, typed}
 use Rattle.bast_schema.proofs.Both.{and_first, and_second}
+use Rattle.container.specs.Atoms.{atoms}
 use Rattle.container.specs.InFile.{InFile, is_unnested}
-use Rattle.container.specs.IsContainer.{IsContainer, tables}
+use Rattle.container.specs.IsContainer.{IsContainer, layout_in, tables}
 use Rattle.container.specs.Layout.{layout_of}
+use Rattle.container.specs.Named.{named}
+use Rattle.container.specs.Spelled.{spelled}
 use Rattle.container.specs.Tables.{Tables}
 use Rattle.container.specs.declared.layout.Layout.{Layout}
+use Rattle.container.proofs.LayoutDistinct.{layout_distinct}
 use Rattle.container.proofs.LayoutSpelled.{layout_is_container}
+use Rattle.container.proofs.ReadBack.{layout_read}
 use Rattle.scope_facts.specs.declared.context.Violation.{Violation}
+use Rattle.string_table.specs.Entries.{AreDistinct}
 use Rattle.tree_decoder.specs.FileLaws.{IsSoundFile}
 use Rattle.tree_decoder.specs.LazyKinds.{first_lazy}
 use Rattle.tree_decoder.specs.Outer.{tree_range}
@@ -21,6 +27,10 @@ use Rattle.tree_decoder.specs.Reading.{fault_in, first_fault, tree_fault, IsFile
 use Rattle.tree_decoder.specs.WholeReading.{Whole, faulty, not_yet, violated, whole, IsWhole}
 use Rattle.tree_decoder.proofs.EagerWhole.{eager_is_whole}
 use Rattle.tree_decoder.proofs.InGrammar.{in_grammar-accepted, read-in_grammar, sound_range}
+use Rattle.tree_decoder.proofs.LazyAtoms.{eager_read}
+use Rattle.tree_decoder.proofs.OneFile.{file_of, one_tree_in_file}
+use Rattle.tree_decoder.proofs.OneTable.{one_over}
+use Rattle.tree_decoder.proofs.SameTree.{same_tree}
 use Rattle.tree_decoder.proofs.Values.{script_there}
 use Rattle.violations.specs.Violations.{first_violation, script}
 use Rattle.violations.proofs.Least.{first_violation_is_least}
@@ -75,3 +85,50 @@ whole_is_sound bytes texts t short small is =
       eager = is.1;
       sound = (first_violation_is_least l.strings script t).none (rw is.0.texts_are is.2);
     })
+
+-- and what is in the grammar is read whole
+
+record Laid (bytes : List ℕ) (texts : Table) (t : Tree) : Type 0 where
+  layout : Layout
+  is : layout_of bytes ≡ Ok layout
+  own : layout.strings ≡ texts
+
+laid : (bytes : List ℕ) (texts : Table) (t : Tree) → IsSoundFile bytes texts t → Laid bytes texts t
+laid bytes texts t sound =
+    let file = sound.in_file in
+    let h : Held = record { texts = texts; tape = bytes } in
+    let tree = spelled file.tables h t in
+    record {
+      layout = layout_in file.tables tree bytes;
+      is = (layout_read file.tables tree bytes (file_of bytes h t file) file.small).0;
+      own = sound.own;
+    }
+
+same_there : (bytes : List ℕ) (texts : Table) (t u : Tree) (l : Layout) → AreBytes bytes → IsSoundFile bytes texts t → l.strings ≡ texts → IsFileOfScript bytes l u → t ≡ u
+same_there bytes texts t u l small sound own file =
+    let h : Held = record { texts = texts; tape = bytes } in
+    let g : Held = record { texts = l.strings; tape = bytes } in
+    let typed_whole = and_first (typed t && is_whole t) (is_unnested t) sound.in_file.typed_whole in
+    let none = eager_read bytes h t l u small sound.in_file sound.eager file in
+    let read = (read-in_grammar bytes l u sound.in_file.small small file (eager_is_whole u file.script.typed none)).0 in
+    let atoms_are : atoms h t ≡ atoms g u = one_tree_in_file bytes h g t u sound.in_file read in
+    let over : atoms h t ≡ atoms h u = atoms_are ∙ ap (λ (x : Table). atoms (record { texts = x; tape = bytes }) u) own in
+    let named_u : named h u ≡ true = subst (λ (x : Table). named (record { texts = x; tape = bytes }) u ≡ true) own read.named in
+    let apart : AreDistinct texts = subst AreDistinct own (layout_distinct bytes l file.container) in
+    one_over h apart t u sound.in_file.named (and_second (typed t) (is_whole t) typed_whole)
+    (same_tree h h t u (and_first (typed t) (is_whole t) typed_whole) file.script.typed sound.in_file.named named_u over)
+
+pub sound_is_whole : (bytes : List ℕ) (texts : Table) (t : Tree) → length bytes ≤ 8388608 → AreBytes bytes → IsSoundFile bytes texts t → IsWhole bytes (whole texts t)
+sound_is_whole bytes texts t short small sound =
+    let at = laid bytes texts t sound in
+    let l = at.layout in
+    let h : Held = record { texts = texts; tape = bytes } in
+    let none : first_fault bytes ≡ None = in_grammar-accepted bytes h t short small sound.in_file in
+    let fine : tree_fault bytes l ≡ None = sym (ap (fault_in bytes) at.is) ∙ none in
+    let file = file_there bytes l short small at.is fine in
+    let same = same_there bytes texts t file.0 l small sound at.own file.1 in
+    (
+      record { layout = l; file = subst (λ (u : Tree). IsFileOfScript bytes l u) (sym same) file.1; texts_are = at.own },
+      sound.eager,
+      (first_violation_is_least texts script t).sound sound.sound,
+    )

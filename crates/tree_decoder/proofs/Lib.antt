@@ -14,6 +14,7 @@ pub mod Nodes
 pub mod OfTree
 pub mod OneFile
 pub mod OneScript
+pub mod OneTable
 pub mod OneTree
 pub mod ReadFile
 pub mod Rows
