@@ -8,6 +8,5 @@ pub mod OneAnswer
 pub mod OutputLemmas
 pub mod Outputs
 pub mod RenamedTree
-pub mod SizeSpelled
 pub mod SourceAnswers
 pub mod SourceFacts

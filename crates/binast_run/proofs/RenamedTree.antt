@@ -22,7 +22,7 @@ use Rattle.string_table.proofs.Search.{list_any-from_none}
 use Rattle.tree_decoder.specs.SameTree.{IsSameTree, IsSame, AreSame}
 use Rattle.tree_decoder.proofs.Accepts.{first_atom, other_atoms, front_atoms, back_atoms}
 use Rattle.tree_encoder.specs.File.{texts_held}
-use Rattle.tree_decoder.proofs.EagerWhole.{child_fits, listed_fits}
+use Rattle.container.proofs.Values.{child_fits, listed_fits}
 use Rattle.binast_run.proofs.Matching.{is_matched_text}
 
 -- of the names with a property, each stands for the same text

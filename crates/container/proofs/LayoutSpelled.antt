@@ -14,18 +14,18 @@ use Rattle.var_numbers.proofs.InverseLemmas.{number_in-spelled}
 use Rattle.var_numbers.proofs.VarnumLemmas.{varnum-nonempty}
 use Rattle.container.specs.declared.layout.Layout.{Layout}
 use Rattle.container.specs.Answers.{fault, ◌>>=◌}
-use Rattle.container.specs.Clauses.{Adds, Lies, LiesCounted, LiesSection, head_at, kind_entries, section_at, text_entries, whole_table}
+use Rattle.container.specs.Clauses.{head_at, kind_entries, section_at, text_entries, whole_table}
 use Rattle.container.specs.Container.{counted}
 use Rattle.container.specs.Entries.{Judge, entries_at, entry_at, more_kinds, more_texts, table_at}
 use Rattle.container.specs.IsContainer.{IsContainer}
 use Rattle.container.specs.Layout.{Reached, layout_of}
 use Rattle.container.specs.Parts.{agreeing, behind_shared, counted_at, done_at, fixed_at, number_from, so_many, version_at}
-use Rattle.container.proofs.Added.{kind_adds, text_adds}
+use Rattle.container.proofs.Added.{Adds, kind_adds, text_adds}
 use Rattle.container.proofs.Counted.{not_less}
 use Rattle.container.proofs.Fixed.{fixed_lies}
 use Rattle.container.proofs.LayoutLemmas.{from_grammar, from_kinds, from_strings, from_texts, from_tree, layout_known, read}
 use Rattle.container.proofs.Answered.{apart, came_from}
-use Rattle.container.proofs.Ranges.{counted_lies, lies_more, split, version_lies}
+use Rattle.container.proofs.Ranges.{Lies, LiesCounted, LiesSection, counted_lies, lies_more, split, version_lies}
 use Rattle.container.proofs.TableSpelled.{lies_none, table_spelled, whole_container}
 
 abbrev AreBytes : List ℕ → Type 0

@@ -1,5 +1,6 @@
 pub mod Added
 pub mod Answered
+pub mod ByAtoms
 pub mod Counted
 pub mod Entries
 pub mod Fields
@@ -13,5 +14,7 @@ pub mod OutsideLemmas
 pub mod Ranges
 pub mod ReadBack
 pub mod Reached
+pub mod SizeSpelled
 pub mod TableLemmas
 pub mod TableSpelled
+pub mod Values

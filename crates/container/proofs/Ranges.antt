@@ -1,11 +1,29 @@
 -- Parts of a file, one behind another.
-use Rattle.std.proofs.Common.{◌≡◌, ℕ, ◌+◌, ◌-◌, ◌≤◌, List, ◌++◌, length, take, drop, slice_range, refl, sym, ap, subst, ◌∙◌, arith, append_assoc, length-append}
+use Rattle.std.proofs.Common.{◌≡◌, ℕ, ◌+◌, ◌-◌, ◌<◌, ◌≤◌, List, ◌++◌, length, take, drop, slice_range, refl, sym, ap, subst, ◌∙◌, arith, append_assoc, length-append}
 use Rattle.std.proofs.Math.Seq.{take-add}
 use Rattle.std.proofs.lemmas.List.{drop-drop, drop_at, take_at, take_rest}
 use Rattle.var_numbers.proofs.RangeLemmas.{range-length}
 use Rattle.var_numbers.specs.ReadClauses.{Spells}
 use Rattle.var_numbers.specs.Varnum.{varnum}
-use Rattle.container.specs.Clauses.{Lies, LiesCounted}
+use Rattle.container.specs.Container.{counted, section}
+
+-- the part lies from `at` to `next`, before `end`
+pub record Lies (bytes : List ℕ) (at end : ℕ) (part : List ℕ) (next : ℕ) : Type 0 where
+  pub next_is : next ≡ at + length part
+  pub within : next ≤ end
+  pub front : slice_range bytes at end ≡ part ++ slice_range bytes next end
+
+-- a length, and behind it so many bytes from one place to another
+pub record LiesCounted (bytes : List ℕ) (at end from to : ℕ) : Type 0 where
+  pub ahead : at < from
+  pub order : from ≤ to
+  pub lies : Lies bytes at end (counted (slice_range bytes from to)) to
+
+-- a section: its title, its form, and after its length its content
+pub record LiesSection (bytes title : List ℕ) (at from to : ℕ) : Type 0 where
+  pub ahead : at < from
+  pub order : from ≤ to
+  pub lies : Lies bytes at (length bytes) (section title (slice_range bytes from to)) to
 
 pub range_split : (bytes : List ℕ) (i j k : ℕ) → i ≤ j → j ≤ k → slice_range bytes i k ≡ slice_range bytes i j ++ slice_range bytes j k
 range_split bytes i j k before behind =

@@ -1,5 +1,5 @@
 -- A container is read as what it is made of.
-use Rattle.std.proofs.Common.{◌≡◌, ℕ, suc, ◌+◌, ◌-◌, ◌<◌, ◌≤◌, ◌^◌, List, [], ◌∷◌, ◌++◌, length, take, drop, slice_range, codes, Option, Ok, Result, append-nil, append_assoc, length-append, refl, sym, ap, ◌∙◌, arith, lit<}
+use Rattle.std.proofs.Common.{◌≡◌, ℕ, suc, ◌+◌, ◌-◌, ◌<◌, ◌≤◌, ◌^◌, List, [], ◌∷◌, ◌++◌, length, slice_range, codes, Option, Ok, Result, append-nil, append_assoc, length-append, refl, sym, ap, ◌∙◌, arith, lit<}
 use Rattle.std.specs.Prelude.{flat_map}
 use Rattle.std.proofs.lemmas.Bool.{eq-eqb}
 use Rattle.bast_base.specs.declared.errors.FormatFault.{FormatFault}

@@ -26,9 +26,10 @@ use Rattle.container.proofs.ReadBack.{one_reading}
 use Rattle.tree_decoder.specs.Outer.{tree_range}
 use Rattle.tree_decoder.specs.Range.{held}
 use Rattle.tree_decoder.proofs.OneTree.{one_eager_tree}
+use Rattle.container.proofs.Values.{child_fits, listed_fits}
 use Rattle.tree_decoder.specs.LazyKinds.{is_eager_kind, first_lazy, kinds_of, kinds_at, kinds_in}
 use Rattle.tree_decoder.specs.Reading.{IsFileOfScript}
-use Rattle.tree_decoder.proofs.EagerWhole.{all_eager, eager_kind, child_fits, listed_fits}
+use Rattle.tree_decoder.proofs.EagerWhole.{all_eager, eager_kind}
 use Rattle.tree_decoder.proofs.OneFile.{file_of}
 
 -- an atom that is of no lazy kind

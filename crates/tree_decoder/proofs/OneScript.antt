@@ -24,7 +24,7 @@ use Rattle.container.specs.InFile.{has_atom}
 use Rattle.container.specs.Spelled.{framed, spelled, spelled_at, spelled_items, spelled_fields}
 use Rattle.container.specs.Tables.{kind_place}
 use Rattle.tree_decoder.specs.Found.{is_text, stands_at, all_stand}
-use Rattle.tree_decoder.specs.Left.{is_folded, folded_at, folded_fields, folded_items}
+use Rattle.container.specs.Folded.{is_folded, folded_at, folded_fields, folded_items}
 use Rattle.tree_decoder.specs.Outcome.{Outcome}
 use Rattle.tree_decoder.specs.Range.{Range, held}
 use Rattle.tree_decoder.specs.Script.{IsScript}
