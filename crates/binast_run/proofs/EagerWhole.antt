@@ -11,6 +11,7 @@ use Rattle.bast_schema.specs.Fields.{fields, has_lazy, is_lazy_type}
 use Rattle.bast_schema.specs.Tree.{Tree, branch, Datum, child, absent, listed, flag, index, whole, name, no_name, choice, window, Data, none, more, kind_of, is_none, typed, fits, fit, item_type, items_fit}
 use Rattle.bast_schema.specs.Unions.{allowed}
 use Rattle.bast_schema.proofs.Both.{and_first, and_second}
+use Rattle.container.proofs.Values.{child_fits, listed_fits}
 use Rattle.binast_run.specs.LazyKinds.{is_eager_kind, first_lazy, kinds_of, kinds_at, kinds_in}
 
 -- where no kind is lazy, each is eager
@@ -41,18 +42,6 @@ both false b one other = cc
 item_eager : (u : Union) (holes : Bool) → is_lazy_type (item_type u holes) ≡ false
 item_eager u true = refl
 item_eager u false = refl
-
--- a node that is a value of a fitting type is well typed
-pub child_fits : (f : FieldType) (t : Tree) → fits f (child t) ≡ true → typed t ≡ true
-child_fits (field.Node u) t is = and_second (allowed u (kind_of t)) (typed t) is
-child_fits (field.Optional u) t is = and_second (allowed u (kind_of t)) (typed t) is
-child_fits (field.Lazy u) t is = and_second (allowed u (kind_of t)) (typed t) is
-child_fits _ t is = cc
-
--- where items stand, they are those of a list
-pub listed_fits : (f : FieldType) (ds : Data) → fits f (listed ds) ≡ true → (u : Union) × (holes : Bool) × (items_fit u holes ds ≡ true)
-listed_fits (field.List u holes filled) ds is = (u, holes, and_second (not filled || not (is_none ds)) (items_fit u holes ds) is)
-listed_fits _ ds is = cc
 
 window_lazy : (f : FieldType) (from to : ℕ) → is_lazy_type f ≡ false → fits f (window from to) ≡ true → false ≡ true
 window_lazy (field.Lazy u) from to eager is = cc

@@ -27,7 +27,8 @@ use Rattle.tree_decoder.specs.Range.{held}
 use Rattle.tree_decoder.proofs.OneTree.{one_eager_tree}
 use Rattle.binast_run.specs.LazyKinds.{is_eager_kind, first_lazy, kinds_of, kinds_at, kinds_in}
 use Rattle.binast_run.specs.Reading.{IsFileOfScript}
-use Rattle.binast_run.proofs.EagerWhole.{all_eager, eager_kind, child_fits, listed_fits}
+use Rattle.binast_run.proofs.EagerWhole.{all_eager, eager_kind}
+use Rattle.container.proofs.Values.{child_fits, listed_fits}
 use Rattle.binast_run.proofs.NamedTrees.{both}
 use Rattle.binast_run.proofs.OneTree.{file_of}
 

@@ -11,7 +11,6 @@ pub mod OneTree
 pub mod OutputLemmas
 pub mod Outputs
 pub mod ReadFile
-pub mod SizeSpelled
 pub mod SourceAnswers
 pub mod Matching
 pub mod RenamedSpelled

@@ -5,7 +5,8 @@ use Rattle.container.specs.Answers.{◌>>=◌}
 use Rattle.container.specs.Layout.{Due, tree, input_end, Reached, before_tree, dues, start, reach, reach_all, layout_of, outside, less_content}
 use Rattle.container.specs.Parts.{done_at}
 use Rattle.container.specs.declared.layout.Layout.{Layout}
-use Rattle.container.proofs.OutsideLemmas.{came_from, outside_read}
+use Rattle.container.proofs.Answered.{came_from}
+use Rattle.container.proofs.OutsideLemmas.{outside_read}
 
 reached_on : (bytes : List ℕ) (xs ys : List Due) (m : Result Reached FormatFault)
     → ((r : Reached) → reach_all bytes (xs ++ ys) r ≡ (reach_all bytes xs r >>= reach_all bytes ys))

@@ -24,12 +24,12 @@ use Rattle.scope_facts.specs.Renamed.{renamed, renamed_at, renamed_in}
 use Rattle.string_table.specs.Entries.{is_same, place_in}
 use Rattle.string_table.proofs.Search.{list_any-from_none}
 use Rattle.tree_decoder.specs.Found.{is_text, stands, stands_at, all_stand}
-use Rattle.tree_decoder.specs.Left.{is_folded, folded, folded_at, folded_fields, folded_items}
+use Rattle.container.specs.Folded.{is_folded, folded, folded_at, folded_fields, folded_items}
 use Rattle.tree_decoder.specs.Range.{Range}
 use Rattle.tree_decoder.specs.Windows.{windows, windows_at, windows_in}
 use Rattle.tree_decoder.proofs.Accepts.{first_atom, other_atoms, front_atoms, back_atoms}
 use Rattle.tree_encoder.specs.File.{texts_held}
-use Rattle.binast_run.proofs.EagerWhole.{child_fits, listed_fits}
+use Rattle.container.proofs.Values.{child_fits, listed_fits}
 use Rattle.binast_run.proofs.Matching.{is_matched_text}
 use Rattle.binast_run.proofs.NamedTrees.{both}
 

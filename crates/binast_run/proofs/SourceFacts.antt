@@ -8,7 +8,7 @@ use Rattle.bast_schema.specs.Counts.{is_whole}
 use Rattle.bast_schema.specs.Eager.{is_eager}
 use Rattle.bast_schema.specs.NamesHold.{names_hold}
 use Rattle.bast_schema.specs.Tree.{Tree, typed, kind_of}
-use Rattle.binast_run.proofs.EagerWhole.{child_fits}
+use Rattle.container.proofs.Values.{child_fits}
 use Rattle.js_parser.specs.Leaves.{text_of, raw_of, with_text, with_texts_of, with_texts}
 use Rattle.js_parser.specs.Source.{IsSource}
 use Rattle.js_parser.specs.Texts.{is_text}

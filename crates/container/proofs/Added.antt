@@ -12,12 +12,12 @@ use Rattle.bast_schema.proofs.Distinct.{distinct_end}
 use Rattle.string_table.specs.Entries.{AreDistinct, added, place_in}
 use Rattle.string_table.proofs.Laws.{AreDistinct-added}
 use Rattle.container.specs.Answers.{◌>>=◌}
-use Rattle.container.specs.Clauses.{Adds, Lies, kind_entries, text_entries}
+use Rattle.container.specs.Clauses.{kind_entries, text_entries}
 use Rattle.container.specs.Container.{counted, entry_bytes}
 use Rattle.container.specs.Entries.{entry_of, more_kinds, more_texts, named, new_entry}
 use Rattle.container.specs.InFile.{IsEntry}
 use Rattle.container.proofs.Named.{text_of_kind}
-use Rattle.container.proofs.Ranges.{lies_more}
+use Rattle.container.proofs.Ranges.{Lies, lies_more}
 
 new_is : {A : Type 0} (xs : List A) (x : A) (at : ℕ) (o : Option ℕ) (ys : List A) → new_entry xs x at o ≡ Ok ys → (o ≡ None) × (ys ≡ xs ++ x ∷ [])
 new_is xs x at (Some first) ys is = cc
@@ -79,6 +79,11 @@ text_from ts bytes at new (Err f) e is = absurd (apart is)
 pub text_added : (ts : List (Option (List ℕ))) (bytes : List ℕ) (at : ℕ) (new : List (Option (List ℕ))) → more_texts ts bytes at ≡ Ok new → NewText ts bytes new
 unfolding more_texts
 text_added ts bytes at new is = text_from ts bytes at new (entry_of bytes at) refl is
+
+-- a table has one entry more, which lies behind those before it
+pub record Adds {A : Type 0} (entries : List A → List ℕ) (bytes : List ℕ) (at end : ℕ) (old new : List A) (next : ℕ) : Type 0 where
+  pub count : length new ≡ length old + 1
+  pub lies : (from : ℕ) → Lies bytes from end (entries old) at → Lies bytes from end (entries new) next
 
 flat_push : {A : Type 0} (f : A → List ℕ) (xs : List A) (x : A) → flat_map f (xs ++ x ∷ []) ≡ flat_map f xs ++ f x
 flat_push f [] x = append-nil (f x)

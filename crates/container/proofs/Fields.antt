@@ -77,7 +77,8 @@ pub spelled_list : (s : Tables) (h : Held) (t : FieldType) (vs : List Value) (ds
     → out ++ spelled_at s h t (listed ds) ≡ (out ++ varnum (length vs)) ++ spelled_items s h (data_of vs)
 spelled_list s h t vs ds out e = rw (← e, count_data_of vs) (sym (append_assoc out (varnum (length vs)) (spelled_items s h (data_of vs))))
 
-unframed : (t : FieldType) (bytes : List ℕ) → is_lazy_type t ≡ false → framed t bytes ≡ bytes
+-- only what is lazy has the frame of a window
+pub unframed : (t : FieldType) (bytes : List ℕ) → is_lazy_type t ≡ false → framed t bytes ≡ bytes
 unframed (field.Lazy u) bytes e = cc
 unframed (field.Node u) bytes e = refl
 unframed (field.Optional u) bytes e = refl

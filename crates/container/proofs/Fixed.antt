@@ -1,5 +1,5 @@
 -- Bytes that are due, compared one after another.
-use Rattle.std.proofs.Common.{◌≡◌, ◌≢◌, inl, inr, ℕ, suc, ◌+◌, ◌-◌, ◌≤◌, ◌<◌, List, [], ◌∷◌, ◌++◌, length, drop, slice_index, refl, sym, ap, subst, ◌∙◌, arith, add-one, drop-cons, length-append, length-drop, nat_eq, false, Ok, Err}
+use Rattle.std.proofs.Common.{◌≡◌, ◌≢◌, inl, inr, ℕ, suc, ◌+◌, ◌-◌, ◌≤◌, ◌<◌, List, [], ◌∷◌, ◌++◌, length, drop, slice_index, refl, sym, ap, ◌∙◌, arith, add-one, drop-cons, length-append, length-drop, nat_eq, false, Ok, Err}
 use Rattle.std.proofs.lemmas.Bool.{eq-eqb, lt-ltb}
 use Rattle.std.proofs.lemmas.Bool.Decides.{eqb_tells}
 use Rattle.std.proofs.lemmas.List.{drop-drop}
@@ -7,10 +7,9 @@ use Rattle.std.proofs.Math.ListN.{drop_of_length-le}
 use Rattle.bast_base.specs.declared.errors.Why.{Why}
 use Rattle.bast_base.specs.declared.errors.Why.TheVariants.{Ended}
 use Rattle.container.specs.Answers.{fault}
-use Rattle.container.specs.Clauses.{Lies}
 use Rattle.container.specs.Parts.{agreeing, fixed_at}
 use Rattle.container.proofs.Counted.{not_less}
-use Rattle.container.proofs.Ranges.{range_to_end}
+use Rattle.container.proofs.Ranges.{Lies, range_to_end}
 
 agreeing_same : (x y : ℕ) (xs ys : List ℕ) → x ≡ y → agreeing (x ∷ xs) (y ∷ ys) ≡ suc (agreeing xs ys)
 agreeing_same x y xs ys is = rw (eq-eqb x y is) refl
@@ -101,7 +100,3 @@ pub stands_there : (bytes due : List ℕ) (why : Why) (at place : ℕ) → Share
 stands_there bytes due why at place s =
     let here : place ≡ at + length due = s.place_is in
     ap (λ (p : ℕ). Ok p) here ∙ sym (fixed_stands bytes due why at (shared_all bytes due at (length due) place s (omega arith)))
-
-pub lies_there : (bytes due : List ℕ) (at place : ℕ) → at ≤ length bytes → Shared bytes due at (length due) place → Lies bytes at (length bytes) due place
-lies_there bytes due at place within s =
-    subst (λ (p : ℕ). Lies bytes at (length bytes) due p) (sym s.place_is) (fixed_lies bytes due at within (shared_all bytes due at (length due) place s (omega arith)))

@@ -9,7 +9,7 @@ use Rattle.container.specs.Clauses.{head_at, section_at, whole_table}
 use Rattle.container.specs.Entries.{more_kinds, more_texts}
 use Rattle.container.specs.Layout.{Due, Reached, before_tree, fixed, input_end, kinds, layout_of, reach, reach_all, section_end, section_start, size, start, texts, tree, version}
 use Rattle.container.specs.Parts.{done_at}
-use Rattle.container.proofs.Answered.{answered, refused, regrouped}
+use Rattle.container.proofs.Answered.{answered, came_from, refused, regrouped}
 
 abbrev pub read : List Kind → List (Option (List ℕ)) → ℕ × ℕ → Reached
 read ks ts t = record { layout = record { kinds = ks; strings = ts; from = t.0; to = t.1 }; at = t.0 }
@@ -97,3 +97,28 @@ layout_left bytes r f is left = layout_is bytes ∙ answered (reach_all bytes be
 pub layout_stands : (bytes : List ℕ) (r : Reached) → reach_all bytes before_tree start ≡ Ok r → Ok tt ≡ done_at (length bytes) r.layout.to → layout_of bytes ≡ Ok r.layout
 unfolding last
 layout_stands bytes r is done = layout_is bytes ∙ answered (reach_all bytes before_tree start) (last bytes) r is ∙ rw (← done) refl
+
+-- where a layout is read, all before the tree was, and the tree ends the bytes
+pub record Known (bytes : List ℕ) (l : Layout) : Type 0 where
+  pub reached : Reached
+  pub parts : (head_at bytes >>= λ h. from_grammar bytes h) ≡ Ok reached
+  pub layout : reached.layout ≡ l
+  pub done : done_at (length bytes) reached.layout.to ≡ Ok tt
+
+pub layout_known : (bytes : List ℕ) (l : Layout) → layout_of bytes ≡ Ok l → Known bytes l
+unfolding last
+layout_known bytes l is =
+    let p = came_from (reach_all bytes before_tree start) (last bytes) l (sym (layout_is bytes) ∙ is) in
+    let at_end : Reached = record p.0 { at = p.0.layout.to } in
+    let a = came_from (reach_all bytes (tree ∷ input_end ∷ []) p.0) (λ q. Ok q.layout) l p.2 in
+    let b = came_from (done_at (length bytes) p.0.layout.to >>= λ done. Ok at_end) (reach_all bytes []) a.0 a.1 in
+    let c = came_from (done_at (length bytes) p.0.layout.to) (λ done. Ok at_end) b.0 b.1 in
+    let first : at_end ≡ b.0 = let e = c.2 in cc in
+    let second : b.0 ≡ a.0 = let e = b.2 in cc in
+    let third : a.0.layout ≡ l = let e = a.2 in cc in
+    record {
+      reached = p.0;
+      parts = sym (parts bytes) ∙ p.1;
+      layout = ap (λ (r : Reached). r.layout) (first ∙ second) ∙ third;
+      done = c.1;
+    }

@@ -12,15 +12,9 @@ use Rattle.container.specs.Clauses.{section_at, whole_table}
 use Rattle.container.specs.Entries.{more_kinds, more_texts}
 use Rattle.container.specs.Layout.{Reached, before_tree, less_content, outside, reach_all, start}
 use Rattle.container.specs.Parts.{behind_shared, counted_at, fixed_at, number_from, so_many}
+use Rattle.container.proofs.Answered.{apart, came_from}
 use Rattle.container.proofs.Counted.{not_less}
 use Rattle.container.proofs.LayoutLemmas.{from_kinds, from_strings, from_texts, from_tree, read}
-
-pub came_from : {A B : Type 0} (m : Result A FormatFault) (f : A → Result B FormatFault) (y : B) → (m >>= f) ≡ Ok y → (x : A) × (m ≡ Ok x) × (f x ≡ Ok y)
-came_from (Ok x) f y is = (x, refl, is)
-came_from (Err e) f y is = cc
-
-apart : {A : Type 0} (x : A) (e : FormatFault) → Ok x ≡ Err e → ⊥
-apart x e is = cc
 
 moved_after : (at : ℕ) (m : Result (ℕ × ℕ) FormatFault) (n : ℕ × ℕ) → moved at m ≡ Ok n → at ≤ n.1
 moved_after at (Ok r) n is = let e : (r.0, at + r.1) ≡ n = cc in let e1 : at + r.1 ≡ n.1 = ap (λ (p : ℕ × ℕ). p.1) e in omega arith

@@ -1,8 +1,7 @@
 -- A container is read as what it is made of.
-use Rattle.std.proofs.Common.{◌≡◌, ℕ, suc, ◌+◌, ◌-◌, ◌<◌, ◌≤◌, ◌^◌, List, [], ◌∷◌, ◌++◌, length, take, drop, slice_range, codes, Option, Ok, Result, append-nil, append_assoc, length-append, refl, sym, ap, ◌∙◌, arith, lit<}
+use Rattle.std.proofs.Common.{◌≡◌, ℕ, suc, ◌+◌, ◌-◌, ◌<◌, ◌≤◌, ◌^◌, List, [], ◌∷◌, ◌++◌, length, slice_range, codes, Option, Ok, Result, append-nil, append_assoc, length-append, refl, sym, ap, ◌∙◌, arith, lit<}
 use Rattle.std.specs.Prelude.{flat_map}
 use Rattle.std.proofs.lemmas.Bool.{eq-eqb}
-use Rattle.std.proofs.lemmas.List.{drop_at, take_at}
 use Rattle.bast_base.specs.declared.errors.FormatFault.{FormatFault}
 use Rattle.bast_base.specs.declared.errors.Why.{Why}
 use Rattle.bast_base.specs.declared.errors.Why.TheVariants.{BadMagic, BadSection, NotIdentity}
@@ -23,28 +22,8 @@ use Rattle.container.proofs.Counted.{counted_stands, not_less, version_stands}
 use Rattle.container.proofs.Fixed.{fixed_stands}
 use Rattle.container.proofs.Fresh.{Fresh, kinds_fresh, texts_fresh}
 use Rattle.container.proofs.LayoutLemmas.{layout_stands}
-use Rattle.container.proofs.Ranges.{range_split, range_to_end}
+use Rattle.container.proofs.Ranges.{range_to_end, split}
 use Rattle.container.proofs.Reached.{behind_head, behind_grammar, behind_kinds, behind_strings, behind_texts, behind_tree}
-
--- a range begins with a part, which ends at a place
-record Splits (bytes : List ℕ) (at end : ℕ) (part more : List ℕ) (mid : ℕ) : Type 0 where
-  mid_is : mid ≡ at + length part
-  within : mid ≤ end
-  here : slice_range bytes at mid ≡ part
-  rest : slice_range bytes mid end ≡ more
-
-split : (bytes : List ℕ) (at end : ℕ) (part more : List ℕ) → at ≤ end → end ≤ length bytes → slice_range bytes at end ≡ part ++ more → Splits bytes at end part more (at + length part)
-split bytes at end part more order small is =
-    let all : length part + length more ≡ end - at = sym (length-append part more) ∙ sym (ap length is) ∙ range-length bytes at end order small in
-    let mid = at + length part in
-    let two : slice_range bytes at mid ++ slice_range bytes mid end ≡ part ++ more = sym (range_split bytes at mid end (omega arith) (omega arith)) ∙ is in
-    let first : length (slice_range bytes at mid) ≡ length part = range-length bytes at mid (omega arith) (omega arith) ∙ omega arith in
-    record {
-      mid_is = refl;
-      within = omega arith;
-      here = sym (take_at (slice_range bytes at mid) (slice_range bytes mid end) (length part) first) ∙ ap (take (length part)) two ∙ take_at part more (length part) refl;
-      rest = sym (drop_at (slice_range bytes at mid) (slice_range bytes mid end) (length part) first) ∙ ap (drop (length part)) two ∙ drop_at part more (length part) refl;
-    }
 
 agreeing_own : (xs ys : List ℕ) → agreeing xs (xs ++ ys) ≡ length xs
 agreeing_own [] ys = refl

@@ -11,15 +11,15 @@ use Rattle.string_table.specs.Entries.{AreDistinct}
 use Rattle.var_numbers.specs.ReadClauses.{Spells}
 use Rattle.var_numbers.specs.Varnum.{varnum}
 use Rattle.container.specs.Answers.{fault, ◌>>=◌}
-use Rattle.container.specs.Clauses.{Lies, LiesSection, whole_table}
+use Rattle.container.specs.Clauses.{whole_table}
 use Rattle.container.specs.Container.{container, grammar, section, strings}
 use Rattle.container.specs.Entries.{Judge, entries_at, entry_at, more_kinds, more_texts, table_at}
 use Rattle.container.specs.InFile.{IsEntry}
 use Rattle.container.specs.IsContainer.{IsContainer}
 use Rattle.container.specs.Parts.{counted_at, done_at, number_from}
 use Rattle.container.proofs.Added.{kinds_stay_distinct, texts_stay_distinct, texts_stay_valid}
-use Rattle.container.proofs.OutsideLemmas.{came_from}
-use Rattle.container.proofs.Ranges.{lies_more, number_lies, range_to_end}
+use Rattle.container.proofs.Answered.{came_from}
+use Rattle.container.proofs.Ranges.{Lies, LiesSection, lies_more, number_lies, range_to_end}
 
 pub lies_none : (bytes : List ℕ) (at end : ℕ) → at ≤ end → Lies bytes at end [] at
 lies_none bytes at end within = record { next_is = omega arith; within = within; front = refl }

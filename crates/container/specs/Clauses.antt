@@ -1,5 +1,5 @@
--- What the readers of a container's parts tell of the bytes that they passed.
-use Rattle.std.specs.Prelude.{◌≡◌, ℕ, ◌+◌, ◌<◌, ◌≤◌, List, ◌++◌, codes, length, slice_range, flat_map, Option, Result, Ok, Err}
+-- What the readers of a container's parts answer, and where what they read lies.
+use Rattle.std.specs.Prelude.{◌≡◌, ℕ, ◌<◌, ◌≤◌, List, codes, length, flat_map, Option, Result, Ok, Err}
 use Rattle.bast_base.specs.declared.errors.FormatFault.{FormatFault}
 use Rattle.bast_base.specs.declared.errors.Halt.{Halt}
 use Rattle.bast_base.specs.declared.errors.Halt.TheVariants as halt
@@ -7,7 +7,7 @@ use Rattle.bast_base.specs.declared.errors.Why.TheVariants.{BadMagic, BadSection
 use Rattle.bast_schema.specs.declared.kind.Kind.{Kind}
 use Rattle.bast_schema.specs.Kinds.{kind_name}
 use Rattle.container.specs.Answers.{◌>>=◌}
-use Rattle.container.specs.Container.{counted, entry_bytes, section}
+use Rattle.container.specs.Container.{counted, entry_bytes}
 use Rattle.container.specs.Entries.{Judge, table_at}
 use Rattle.container.specs.Parts.{fixed_at, version_at, counted_at, done_at}
 
@@ -23,17 +23,11 @@ Passes new (Ok next) wanted = wanted ≡ Ok (new, next)
 Passes new (Err (halt.Format f)) wanted = wanted ≡ Err f
 Passes new (Err halt.Memory) wanted = Unit {0}
 
--- the part lies from `at` to `next`, before `end`
-pub record Lies (bytes : List ℕ) (at end : ℕ) (part : List ℕ) (next : ℕ) : Type 0 where
-  pub next_is : next ≡ at + length part
-  pub within : next ≤ end
-  pub front : slice_range bytes at end ≡ part ++ slice_range bytes next end
-
--- a length, and behind it so many bytes from one place to another
-pub record LiesCounted (bytes : List ℕ) (at end from to : ℕ) : Type 0 where
-  pub ahead : at < from
-  pub order : from ≤ to
-  pub lies : Lies bytes at end (counted (slice_range bytes from to)) to
+-- a range lies after a place, and not past the end
+pub record IsAfter (at end : ℕ) (r : ℕ × ℕ) : Type 0 where
+  pub ahead : at < r.0
+  pub order : r.0 ≤ r.1
+  pub within : r.1 ≤ end
 
 -- the entries of a table, each behind its length
 abbrev pub kind_entries : List Kind → List ℕ
@@ -41,17 +35,6 @@ kind_entries kinds = flat_map (λ k. counted (kind_name k)) kinds
 
 abbrev pub text_entries : List (Option (List ℕ)) → List ℕ
 text_entries texts = flat_map (λ entry. counted (entry_bytes entry)) texts
-
--- a table has one entry more, which lies behind those before it
-pub record Adds {A : Type 0} (entries : List A → List ℕ) (bytes : List ℕ) (at end : ℕ) (old new : List A) (next : ℕ) : Type 0 where
-  pub count : length new ≡ length old + 1
-  pub lies : (from : ℕ) → Lies bytes from end (entries old) at → Lies bytes from end (entries new) next
-
--- the same of a section: its title, its form, and its content behind the length
-pub record LiesSection (bytes title : List ℕ) (at from to : ℕ) : Type 0 where
-  pub ahead : at < from
-  pub order : from ≤ to
-  pub lies : Lies bytes at (length bytes) (section title (slice_range bytes from to)) to
 
 -- the place behind the first bytes of a file
 abbrev pub head_at : List ℕ → Result ℕ FormatFault

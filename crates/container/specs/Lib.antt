@@ -3,6 +3,7 @@ pub mod Atoms
 pub mod Clauses
 pub mod Container
 pub mod Entries
+pub mod Folded
 pub mod InFile
 pub mod IsContainer
 pub mod Laws
@@ -10,4 +11,5 @@ pub mod Layout
 pub mod Named
 pub mod Parts
 pub mod Spelled
+pub mod SpelledAtom
 pub mod Tables

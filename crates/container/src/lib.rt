@@ -9,6 +9,9 @@ mod tables;
 mod tests;
 mod writing;
 
-pub use laws::{container_has_one_reading, container_is_read_back};
+pub use laws::{
+    container_has_one_reading, container_is_read_back, layouts_are_containers,
+    trees_are_spelled_by_atoms, trees_have_no_more_values_than_bytes,
+};
 pub use layout::{Layout, read_layout};
 pub use writing::write_file;

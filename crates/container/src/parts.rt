@@ -1,5 +1,5 @@
 ghost use Rattle.std.specs.Prelude.{◌≡◌, ◌<◌, ◌≤◌, ◌+◌, ◌-◌, ◌^◌, length, IfOk};
-ghost use Rattle.container.specs.Clauses.{Lies, LiesCounted, LiesSection, section_at};
+ghost use Rattle.container.specs.Clauses.{IsAfter, section_at};
 ghost use Rattle.container.specs.Parts.{counted_at, fixed_at};
 
 use bast_base::{FormatFault, Steps, Tape, Why};
@@ -15,7 +15,7 @@ pub(crate) fn read_fixed<L>(
 ) -> Result<u32, FormatFault>
     requires { at ≤ length tape.now }
     ensures exact { result ≡ fixed_at tape.now due.now why at }
-    ensures spelled { IfOk result (Lies tape.now at (length tape.now) due.now) }
+    ensures within { IfOk result (λ next. (at ≤ next) × (next ≤ length tape.now)) }
     ensures cost { IfOk result (λ next. steps.new ≤ steps.old + (next - at)) }
     ensures most { steps.new ≤ steps.old + (length tape.now - at) }
     ensures small { length tape.now < 2 ^ 32 }
@@ -44,7 +44,7 @@ pub(crate) fn read_counted<L>(
     requires order { at ≤ end }
     requires within { end ≤ length tape.now }
     ensures exact { result ≡ counted_at tape.now end at }
-    ensures spelled { IfOk result (λ r. LiesCounted tape.now at end r.0 r.1) }
+    ensures within { IfOk result (IsAfter at end) }
     ensures cost { IfOk result (λ r. steps.new ≤ steps.old + (r.0 - at)) }
     ensures most { steps.new ≤ steps.old + (end - at) }
 {
@@ -64,7 +64,7 @@ pub(crate) fn read_section<L>(
 ) -> Result<(u32, u32), FormatFault>
     requires { at ≤ length tape.now }
     ensures exact { result ≡ section_at tape.now title.now at }
-    ensures spelled { IfOk result (λ r. LiesSection tape.now title.now at r.0 r.1) }
+    ensures within { IfOk result (IsAfter at (length tape.now)) }
     ensures cost { IfOk result (λ r. steps.new ≤ steps.old + (r.0 - at)) }
     ensures most { steps.new ≤ steps.old + (length tape.now - at) }
 {

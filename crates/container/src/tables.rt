@@ -1,8 +1,7 @@
-ghost use Rattle.std.specs.Prelude.{◌≡◌, ◌≤◌, ◌<◌, ◌+◌, ◌-◌, ◌^◌, length, slice_range, Some, None, IfOk};
+ghost use Rattle.std.specs.Prelude.{◌≡◌, ◌≤◌, ◌<◌, ◌+◌, ◌-◌, ◌^◌, length, Some, None, IfOk};
 ghost use Rattle.bast_schema.specs.Kinds.{kind_of_name};
 ghost use Rattle.container.specs.Answers.{Answers, fault};
-ghost use Rattle.container.specs.Clauses.{Adds, Changes, Passes, kind_entries, text_entries, whole_table};
-ghost use Rattle.container.specs.Container.{grammar, strings as strings_of};
+ghost use Rattle.container.specs.Clauses.{Changes, Passes, whole_table};
 ghost use Rattle.container.specs.Entries.{entry_at, more_kinds, more_texts, new_entry};
 ghost use Rattle.container.specs.Parts.{done_at};
 ghost use Rattle.string_table.specs.Entries.{place_in};
@@ -27,7 +26,6 @@ pub(crate) fn read_kinds<L>(
     requires order { from ≤ to }
     requires within { to ≤ length tape.now }
     ensures exact { Answers result (whole_table more_kinds tape.now to from) }
-    ensures spelled { IfOk result (λ kinds. slice_range tape.now from to ≡ grammar kinds) }
     ensures most { steps.new ≤ steps.old + (to - from) }
 {
     let (count, start) = read_varnum(tape, from, to, steps)?;
@@ -53,7 +51,6 @@ fn read_kind<L>(
     requires within { end ≤ length tape.now }
     ensures exact { Passes kinds.new result (entry_at more_kinds tape.now end kinds.old at) }
     ensures ahead { IfOk result (λ next. (at < next) × (next ≤ end)) }
-    ensures spelled { IfOk result (Adds kind_entries tape.now at end kinds.old kinds.new) }
     ensures cost { IfOk result (λ next. steps.new ≤ steps.old + (next - at)) }
     ensures most { steps.new ≤ steps.old + (end - at) }
 {
@@ -100,7 +97,6 @@ pub(crate) fn read_texts<L>(
     requires order { from ≤ to }
     requires within { to ≤ length tape.now }
     ensures exact { Answers result (whole_table more_texts tape.now to from) }
-    ensures spelled { IfOk result (λ texts. slice_range tape.now from to ≡ strings_of texts) }
     ensures most { steps.new ≤ steps.old + (to - from) }
 {
     let (count, start) = read_varnum(tape, from, to, steps)?;
@@ -128,7 +124,6 @@ fn read_text<L>(
     requires few { length strings.old < at }
     ensures exact { Passes strings.new result (entry_at more_texts tape.now end strings.old at) }
     ensures ahead { IfOk result (λ next. (at < next) × (next ≤ end)) }
-    ensures spelled { IfOk result (Adds text_entries tape.now at end strings.old strings.new) }
     ensures few { IfOk result (λ next. length strings.new < next) }
     ensures cost { IfOk result (λ next. steps.new ≤ steps.old + (next - at)) }
     ensures most { steps.new ≤ steps.old + (end - at) }

@@ -19,7 +19,8 @@ use Rattle.bast_schema.proofs.EachKind.{same_kind_true}
 use Rattle.container.specs.Atoms.{Atom, kind, atoms, atoms_of, atoms_of_fields, atoms_of_items}
 use Rattle.bast_schema.specs.Eager.{is_eager, is_eager_at, are_eager}
 use Rattle.tree_decoder.specs.Dues.{Due, due, dues, times, below}
-use Rattle.tree_decoder.specs.Left.{puts, then_left, dues_left, is_folded, folded, folded_at, folded_fields, folded_items}
+use Rattle.container.specs.Folded.{is_folded, folded, folded_at, folded_fields, folded_items}
+use Rattle.tree_decoder.specs.Left.{puts, then_left, dues_left}
 use Rattle.container.specs.Named.{named, named_at, all_named}
 use Rattle.tree_decoder.proofs.Nodes.{item_atoms}
 use Rattle.tree_decoder.proofs.Accepts.{enough_of, choice_text_of, not_lazy}

@@ -33,7 +33,7 @@ use Rattle.container.specs.Spelled.{framed, spelled, spelled_at, spelled_items, 
 use Rattle.container.specs.Tables.{Tables, kind_place}
 use Rattle.tree_decoder.specs.Dues.{Due, due, dues, times, below, children, taken, atom_of}
 use Rattle.tree_decoder.specs.Found.{Found, Run, Fails, Spent, SpentFails}
-use Rattle.tree_decoder.specs.Left.{is_folded, folded_at, folded_fields, folded_items}
+use Rattle.container.specs.Folded.{is_folded, folded_at, folded_fields, folded_items}
 use Rattle.container.specs.Answers.{fault, ◌>>=◌}
 use Rattle.tree_decoder.specs.Numbers.{number_from, judged, kind_of_number, kind_at, count_at}
 use Rattle.tree_decoder.specs.Outcome.{Outcome, ends, outcome_from}

@@ -24,7 +24,8 @@ use Rattle.bast_schema.proofs.Lists.{count_fit}
 use Rattle.container.specs.Atoms.{Atom, kind, count, flag, index, whole, text, window, atoms_of, atoms_of_fields, atoms_of_items}
 use Rattle.bast_schema.specs.Eager.{is_eager_at, are_eager}
 use Rattle.tree_decoder.specs.Dues.{Due, due, dues, times, below}
-use Rattle.tree_decoder.specs.Left.{puts, then_left, dues_left, is_folded, folded_at, folded_fields, IsOfDue}
+use Rattle.container.specs.Folded.{is_folded, folded_at, folded_fields}
+use Rattle.tree_decoder.specs.Left.{puts, then_left, dues_left, IsOfDue}
 use Rattle.container.specs.Named.{named_at, all_named}
 use Rattle.tree_decoder.proofs.Nodes.{items_fit_times, length_times, times_atoms, times_folded, plain_item, and_true}
 

@@ -33,7 +33,7 @@ use Rattle.bast_schema.specs.Eager.{are_eager, is_eager, is_eager_at}
 use Rattle.container.specs.InFile.{has_atom}
 use Rattle.container.specs.Spelled.{framed, spelled, spelled_at, spelled_items, spelled_fields}
 use Rattle.container.specs.Tables.{Tables, kind_place, text_place}
-use Rattle.tree_decoder.specs.Left.{is_folded, folded, folded_at, folded_fields, folded_items}
+use Rattle.container.specs.Folded.{is_folded, folded, folded_at, folded_fields, folded_items}
 use Rattle.tree_decoder.proofs.Accepts.{any_place, pattern_small, first_atom, other_atoms, front_atoms, back_atoms}
 use Rattle.tree_decoder.proofs.Nodes.{framed_item, item_atoms, item_spelled}
 

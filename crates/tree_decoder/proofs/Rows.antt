@@ -22,11 +22,13 @@ use Rattle.bast_schema.specs.Eager.{is_eager_at}
 use Rattle.container.specs.Spelled.{framed, spelled_at}
 use Rattle.container.specs.Tables.{Tables}
 use Rattle.tree_decoder.specs.Dues.{Due, due, dues, times, children, Taken, taken, atom_of, atom_at}
-use Rattle.tree_decoder.specs.Left.{puts, then_left, dues_left, is_folded, folded_at}
+use Rattle.container.specs.Folded.{is_folded, folded_at}
+use Rattle.tree_decoder.specs.Left.{puts, then_left, dues_left}
 use Rattle.tree_decoder.specs.Numbers.{number_from, judged, kind_of_number, kind_at, count_at, leaf_at, is_leaf}
 use Rattle.tree_decoder.specs.Outcome.{after, go, outcome_from}
 use Rattle.tree_decoder.specs.Range.{Range, IsSound, held, left}
-use Rattle.tree_decoder.specs.Row.{Longest, here, and_then, spelled_one}
+use Rattle.container.specs.SpelledAtom.{spelled_atom}
+use Rattle.tree_decoder.specs.Row.{Longest, here, and_then}
 use Rattle.tree_decoder.specs.Windows.{windows_at}
 use Rattle.tree_decoder.proofs.Dues.{left_at, puts_plain, puts_null}
 use Rattle.tree_decoder.proofs.Moves.{atom_moves}
@@ -69,7 +71,7 @@ kind_plain r u optional d w at k m e =
 -- the atom of a due, and what it puts
 record Step (r : Range) (t : FieldType) (d : ℕ) (w : Bool) (at : ℕ) (y : Taken) : Type 0 where
   pub atom : Atom
-  pub spelled : left r at ≡ spelled_one r.tables atom ++ left r y.next
+  pub spelled : left r at ≡ spelled_atom r.tables atom ++ left r y.next
   pub puts : puts t d w atom ≡ Some y.puts
 
 node_puts : (u : Union) (optional : Bool) (d : ℕ) (w : Bool) (k : Kind) → allowed u k ≡ true → (w && has_lazy k) ≡ false → puts (item_type u optional) d w (atom.kind k) ≡ Some (children (Some k) d w)
@@ -111,7 +113,7 @@ nothing_put (Some es) e = ap (λ (ds : List Due). Some ds) (sym (append-nil es))
 record OneAtom (s : Tables) (h : Held) (t : FieldType) (v : Datum) : Type 0 where
   pub atom : Atom
   pub is : atoms_of h t v ≡ atom ∷ []
-  pub spelled : framed t (spelled_at s h t v) ≡ spelled_one s atom
+  pub spelled : framed t (spelled_at s h t v) ≡ spelled_atom s atom
   pub eager : is_eager_at v ≡ true
 
 one_atom : (s : Tables) (h : Held) (t : FieldType) (v : Datum) → is_leaf t ≡ true → fits t v ≡ true → is_folded t v ≡ true → OneAtom s h t v

@@ -19,7 +19,7 @@ use Rattle.container.specs.Spelled.{framed, spelled_at, spelled_fields}
 use Rattle.container.specs.Tables.{Tables}
 use Rattle.tree_decoder.specs.Dues.{Due, due, dues, times}
 use Rattle.tree_decoder.specs.Found.{Found, Run, Fails, Spent, SpentFails, stands_at, all_stand}
-use Rattle.tree_decoder.specs.Left.{is_folded, folded_at, folded_fields}
+use Rattle.container.specs.Folded.{is_folded, folded_at, folded_fields}
 use Rattle.tree_decoder.specs.Outcome.{Outcome, behind, outcome_from}
 use Rattle.tree_decoder.specs.Range.{Range, IsSound, held, left}
 use Rattle.tree_decoder.specs.Windows.{windows_at, windows_in, skipped}

@@ -34,7 +34,7 @@ use Rattle.tree_decoder.specs.Dues.{Due, due, taken, atom_of}
 use Rattle.tree_decoder.specs.Found.{Found, Fails, SpentFails, Spent, stands_at, is_text}
 use Rattle.container.specs.Answers.{fault, ◌>>=◌}
 use Rattle.tree_decoder.specs.Numbers.{number_from, name_of, label_of, variant_of, choice_at, window_of, whole_with, whole_or, whole_at, flag_of, flag_at, numbered, leaf_at, is_leaf}
-use Rattle.tree_decoder.specs.Left.{is_folded, folded_at}
+use Rattle.container.specs.Folded.{is_folded, folded_at}
 use Rattle.tree_decoder.specs.Outcome.{Outcome, outcome_from}
 use Rattle.tree_decoder.specs.Range.{Range, IsSound, held, left}
 use Rattle.tree_decoder.specs.Windows.{windows_at}

@@ -14,7 +14,7 @@ use Rattle.bast_schema.specs.declared.kind.FieldType.TheVariants as field
 use Rattle.bast_schema.specs.declared.kind.Union.{Union}
 use Rattle.bast_schema.specs.declared.kind.Union.TheVariants.{Body}
 use Rattle.bast_schema.specs.Fields.{fields}
-use Rattle.tree_decoder.specs.Left.{is_folded, folded, folded_at, folded_fields, folded_items}
+use Rattle.container.specs.Folded.{is_folded, folded, folded_at, folded_fields, folded_items}
 use Rattle.tree_decoder.specs.Found.{is_text, stands, stands_at, all_stand}
 use Rattle.tree_decoder.specs.Range.{Range, held}
 use Rattle.tree_decoder.specs.Script.{IsScript}

@@ -13,7 +13,7 @@ use Rattle.container.specs.Atoms.{atoms_of, atoms_of_fields}
 use Rattle.container.specs.InFile.{has_atom}
 use Rattle.container.specs.Spelled.{framed, spelled_at, spelled_fields}
 use Rattle.tree_decoder.specs.Dues.{Due, due, dues}
-use Rattle.tree_decoder.specs.Left.{is_folded, folded_at, folded_fields}
+use Rattle.container.specs.Folded.{is_folded, folded_at, folded_fields}
 use Rattle.tree_decoder.specs.Outcome.{behind, outcome_from}
 use Rattle.tree_decoder.specs.Range.{Range, held, left}
 use Rattle.tree_decoder.specs.Windows.{windows_at, windows_in, skipped}

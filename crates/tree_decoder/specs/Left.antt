@@ -9,6 +9,7 @@ use Rattle.bast_schema.specs.Held.{Held}
 use Rattle.bast_schema.specs.Kinds.{same_kind}
 use Rattle.bast_schema.specs.Tree.{Tree, branch, Datum, child, listed, Data, none, more, fits, item_type}
 use Rattle.bast_schema.specs.Unions.{allowed}
+use Rattle.container.specs.Folded.{is_folded, folded_at}
 use Rattle.container.specs.Atoms.{Atom, kind, count, flag, index, whole, text, window, atoms_of}
 use Rattle.bast_schema.specs.Eager.{is_eager_at}
 use Rattle.tree_decoder.specs.Dues.{Due, due, dues, times, below}
@@ -40,28 +41,6 @@ abbrev pub dues_left : List Due → List Atom → Option (List Due)
 dues_left ds [] = Some ds
 dues_left [] (a ∷ others) = None
 dues_left (x ∷ ds) (a ∷ others) = then_left (λ es. dues_left es others) ds (puts x.type x.depth x.inside a)
-
-abbrev pub is_folded : FieldType → Datum → Bool
-is_folded (field.Lazy u) (child t) = false
-is_folded _ _ = true
-
--- whether the contents of each lazy kind are a window
-abbrev mutual
-  pub folded : Tree → Bool
-  folded (branch k ds) = folded_fields (fields k) ds
-
-  pub folded_at : Datum → Bool
-  folded_at (child t) = folded t
-  folded_at (listed ds) = folded_items ds
-  folded_at _ = true
-
-  pub folded_fields : List FieldType → Data → Bool
-  folded_fields (t ∷ ts) (more d ds) = is_folded t d && (folded_at d && folded_fields ts ds)
-  folded_fields _ _ = true
-
-  pub folded_items : Data → Bool
-  folded_items none = true
-  folded_items (more d ds) = folded_at d && folded_items ds
 
 -- a value of a type, with windows for what is lazy, and no lazy kind inside a window
 pub record IsOfDue (h : Held) (t : FieldType) (w : Bool) (v : Datum) : Type 0 where

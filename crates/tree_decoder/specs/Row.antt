@@ -5,26 +5,16 @@ use Rattle.bast_base.specs.declared.errors.FormatFault.{FormatFault}
 use Rattle.var_numbers.specs.Pattern.{pattern}
 use Rattle.var_numbers.specs.Varnum.{varnum}
 use Rattle.container.specs.Atoms.{Atom, kind, count, flag, index, whole, text, window}
-use Rattle.container.specs.Tables.{Tables, kind_place, text_place}
+use Rattle.container.specs.SpelledAtom.{spelled_atom}
 use Rattle.tree_decoder.specs.Dues.{Due, Taken, atom_at}
 use Rattle.tree_decoder.specs.Left.{dues_left, puts}
 use Rattle.tree_decoder.specs.Outcome.{done, outcome_from}
 use Rattle.tree_decoder.specs.Range.{Range, IsSound, left}
 
--- the bytes of an atom
-abbrev pub spelled_one : Tables → Atom → List ℕ
-spelled_one s (kind k) = varnum (kind_place s k)
-spelled_one s (count n) = varnum n
-spelled_one s (flag b) = (if b then 1 else 0) ∷ []
-spelled_one s (index n) = varnum n
-spelled_one s (whole n) = to_be_bytes w64 (pattern n)
-spelled_one s (text entry) = varnum (text_place s entry)
-spelled_one s (window bytes) = varnum (length bytes) ++ bytes
-
 -- the atom is spelled at a place, and it is of the due's type: it puts these dues in the due's place
 pub record Standing (r : Range) (x : Due) (at : ℕ) (a : Atom) (y : Taken) : Type 0 where
   pub taken : atom_at r x at ≡ Ok y
-  pub spelled : left r at ≡ spelled_one r.tables a ++ left r y.next
+  pub spelled : left r at ≡ spelled_atom r.tables a ++ left r y.next
   pub puts : puts x.type x.depth x.inside a ≡ Some y.puts
 
 -- From these dues at a place on the atoms stand one after another, each for the first due. Behind them other dues are left.

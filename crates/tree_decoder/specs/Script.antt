@@ -13,7 +13,7 @@ use Rattle.container.specs.InFile.{has_atom}
 use Rattle.container.specs.Spelled.{spelled}
 use Rattle.tree_decoder.specs.Dues.{due}
 use Rattle.tree_decoder.specs.Found.{stands}
-use Rattle.tree_decoder.specs.Left.{folded}
+use Rattle.container.specs.Folded.{folded}
 use Rattle.tree_decoder.specs.Outcome.{Outcome, outcome_from}
 use Rattle.tree_decoder.specs.Range.{Range, IsSound, held, left}
 use Rattle.tree_decoder.specs.Windows.{windows}

@@ -14,8 +14,9 @@ use Rattle.var_numbers.proofs.VarnumLemmas.{varnum-nonempty}
 use Rattle.var_numbers.specs.Varnum.{varnum}
 use Rattle.tree_encoder.specs.declared.fault.EncodeFault.{EncodeFault}
 use Rattle.tree_encoder.specs.declared.fault.EncodeFault.TheVariants.{Memory, TooLarge}
+use Rattle.container.specs.SpelledAtom.{spelled_atom}
 use Rattle.tree_encoder.specs.File.{most_bytes, with_atom}
-use Rattle.tree_encoder.specs.Writing.{AllPlain, Puts, Written, atom_bytes, list_atoms, with_next, written}
+use Rattle.tree_encoder.specs.Writing.{AllPlain, Puts, Written, list_atoms, with_next, written}
 
 pub written-append : (w : Written) (a b : List Atom) → written w (a ++ b) ≡ written (written w a) b
 written-append w [] b = refl
@@ -29,7 +30,7 @@ pub plain_next : (next rest all : List Atom) → all ≡ next ++ rest → AllPla
 plain_next next rest all split plain = plain_parts next rest (subst (λ (x : List Atom). AllPlain x) split plain)
 
 -- an atom takes a byte at least
-atom_takes : (s : Tables) (a : Atom) → 1 ≤ length (atom_bytes s a)
+atom_takes : (s : Tables) (a : Atom) → 1 ≤ length (spelled_atom s a)
 atom_takes s (kind k) = varnum-nonempty (kind_place s k)
 atom_takes s (count n) = varnum-nonempty n
 atom_takes s (flag b) = omega arith
@@ -43,7 +44,7 @@ written_longer w [] = omega arith
 written_longer w (a ∷ as') =
     let rest : length (with_next w a).bytes + length as' ≤ length (written (with_next w a) as').bytes = written_longer (with_next w a) as' in
     let s = with_atom w.tables a in
-    omega (arith, atom_takes s a, length-append w.bytes (atom_bytes s a))
+    omega (arith, atom_takes s a, length-append w.bytes (spelled_atom s a))
 
 -- what is too large stays so behind more atoms
 pub larger : (w : Written) (next rest all : List Atom) → all ≡ next ++ rest → most_bytes < length (written w next).bytes → most_bytes < length (written w all).bytes

@@ -21,12 +21,15 @@ use Rattle.container.specs.Atoms.{Atom, kind, count, flag, index, whole, text, w
 use Rattle.container.specs.Container.{container}
 use Rattle.var_numbers.specs.Varnum.{varnum}
 use Rattle.bast_schema.specs.Eager.{is_eager, is_eager_at, are_eager}
-use Rattle.container.specs.Spelled.{framed, spelled, spelled_at, spelled_fields, spelled_items}
+use Rattle.container.specs.Spelled.{spelled}
+use Rattle.container.specs.SpelledAtom.{spelled_atom}
 use Rattle.container.specs.Tables.{Tables}
+use Rattle.container.proofs.ByAtoms.{eager_is_folded, tree_by_atoms}
+use Rattle.container.proofs.Values.{child_fits, listed_fits}
 use Rattle.string_table.specs.Entries.{place_in}
 use Rattle.string_table.proofs.Laws.{place_in-added}
 use Rattle.tree_encoder.specs.File.{file, most_bytes, tables_of, used_from, with_atom}
-use Rattle.tree_encoder.specs.Writing.{AllPlain, Puts, Written, atom_bytes, so_far, with_next, written}
+use Rattle.tree_encoder.specs.Writing.{AllPlain, Puts, Written, so_far, with_next, written}
 use Rattle.tree_encoder.proofs.Stay.{kind_placed, kind_stays, text_stays}
 use Rattle.tree_encoder.specs.declared.fault.EncodeFault.{EncodeFault}
 use Rattle.tree_encoder.specs.declared.fault.EncodeFault.TheVariants.{Memory, TooLarge}
@@ -39,33 +42,6 @@ use Rattle.tree_encoder.proofs.Walk.{plain_join}
 not_false : (b : Bool) → not b ≡ true → b ≡ false
 not_false true e = cc
 not_false false e = refl
-
-child_typed : (f : FieldType) (t : Tree) → fits f (schema.child t) ≡ true → typed t ≡ true
-child_typed (field.Node u) t is = and_second _ (typed t) is
-child_typed (field.Optional u) t is = and_second _ (typed t) is
-child_typed (field.Lazy u) t is = and_second _ (typed t) is
-child_typed (field.List u holes filled) t is = cc
-child_typed field.Bool t is = cc
-child_typed field.Index t is = cc
-child_typed field.Whole t is = cc
-child_typed field.Text t is = cc
-child_typed field.Name t is = cc
-child_typed field.Label t is = cc
-child_typed (field.Choice set) t is = cc
-
--- the items of a list fit one type
-items_typed : (f : FieldType) (ds : Data) → fits f (schema.listed ds) ≡ true → (u : Union) × (holes : Bool) × (items_fit u holes ds ≡ true)
-items_typed (field.List u holes filled) ds is = (u, holes, and_second _ (items_fit u holes ds) is)
-items_typed (field.Node u) ds is = cc
-items_typed (field.Optional u) ds is = cc
-items_typed (field.Lazy u) ds is = cc
-items_typed field.Bool ds is = cc
-items_typed field.Index ds is = cc
-items_typed field.Whole ds is = cc
-items_typed field.Text ds is = cc
-items_typed field.Name ds is = cc
-items_typed field.Label ds is = cc
-items_typed (field.Choice set) ds is = cc
 
 whole_small : (f : FieldType) (n : ℕ) → fits f (schema.whole n) ≡ true → n < 2 ^ 53
 whole_small field.Whole n is = ltb-true n (2 ^ 53) is
@@ -94,9 +70,9 @@ mutual
       (plain_fields h ds fs (and_second _ (is_whole_in ds) no_windows) (and_second _ (are_eager ds) eager) (and_second (fits f d) (fit fs ds) fit_all))
 
   plain_value : (h : Held) (d : Datum) (f g : FieldType) → is_whole_at d ≡ true → is_eager_at d ≡ true → fits f d ≡ true → AllPlain (atoms_of h g d)
-  plain_value h (schema.child t) f g no_windows eager is = plain_tree h t no_windows eager (child_typed f t is)
+  plain_value h (schema.child t) f g no_windows eager is = plain_tree h t no_windows eager (child_fits f t is)
   plain_value h schema.absent f g no_windows eager is = (refl, tt)
-  plain_value h (schema.listed ds) f g no_windows eager is = let items = items_typed f ds is in (tt, plain_items h ds items.0 items.1 no_windows eager items.2)
+  plain_value h (schema.listed ds) f g no_windows eager is = let items = listed_fits f ds is in (tt, plain_items h ds items.0 items.1 no_windows eager items.2)
   plain_value h (schema.flag b) f g no_windows eager is = (tt, tt)
   plain_value h (schema.index n) f g no_windows eager is = (tt, tt)
   plain_value h (schema.whole n) f g no_windows eager is = (whole_small f n is, tt)
@@ -111,77 +87,6 @@ mutual
       plain_join (atoms_of h (field.Optional Body) d) (atoms_of_items h ds)
       (plain_value h d (item_type u holes) (field.Optional Body) (and_first _ (is_whole_in ds) no_windows) (and_first _ (are_eager ds) eager) (and_first (fits (item_type u holes) d) (items_fit u holes ds) is))
       (plain_items h ds u holes (and_second _ (is_whole_in ds) no_windows) (and_second _ (are_eager ds) eager) (and_second (fits (item_type u holes) d) (items_fit u holes ds) is))
-
--- ---- it is spelled atom by atom
-
-abbrev all_bytes : Tables → List Atom → List ℕ
-all_bytes s as' = flat_map (atom_bytes s) as'
-
-bytes_append : (s : Tables) (a b : List Atom) → all_bytes s (a ++ b) ≡ all_bytes s a ++ all_bytes s b
-bytes_append s [] b = refl
-bytes_append s (x ∷ a) b = ap (λ (rest : List ℕ). atom_bytes s x ++ rest) (bytes_append s a b) ∙ sym (append_assoc (atom_bytes s x) (all_bytes s a) (all_bytes s b))
-
-one_atom : (s : Tables) (a : Atom) → atom_bytes s a ≡ all_bytes s (a ∷ [])
-one_atom s a = sym (append-nil (atom_bytes s a))
-
-unframed : (t : FieldType) (bytes : List ℕ) → is_lazy_type t ≡ false → framed t bytes ≡ bytes
-unframed (field.Lazy u) bytes e = cc
-unframed (field.Node u) bytes e = refl
-unframed (field.Optional u) bytes e = refl
-unframed (field.List u holes filled) bytes e = refl
-unframed field.Bool bytes e = refl
-unframed field.Index bytes e = refl
-unframed field.Whole bytes e = refl
-unframed field.Text bytes e = refl
-unframed field.Name bytes e = refl
-unframed field.Label bytes e = refl
-unframed (field.Choice set) bytes e = refl
-
-or_first : (a b : Bool) → (a || b) ≡ false → a ≡ false
-or_first true b e = cc
-or_first false b e = refl
-
-or_second : (a b : Bool) → (a || b) ≡ false → b ≡ false
-or_second true b e = cc
-or_second false b e = e
-
-both_spelled : (a b c d : List ℕ) → a ≡ b → c ≡ d → a ++ c ≡ b ++ d
-both_spelled a b c d e f = ap (λ (x : List ℕ). x ++ c) e ∙ ap (λ (x : List ℕ). b ++ x) f
-
-mutual
-  tree_spelled : (s : Tables) (h : Held) (t : Tree) → is_whole t ≡ true → is_eager t ≡ true → spelled s h t ≡ all_bytes s (atoms h t)
-  tree_spelled s h (branch k ds) no_windows eager =
-      ap (λ (rest : List ℕ). atom_bytes s (kind k) ++ rest) (fields_spelled s h ds (fields k) no_windows (and_second _ (are_eager ds) eager) (not_false (has_lazy k) (and_first _ (are_eager ds) eager)))
-
-  fields_spelled : (s : Tables) (h : Held) (ds : Data) (fs : List FieldType) → is_whole_in ds ≡ true → are_eager ds ≡ true → list_any is_lazy_type fs ≡ false → spelled_fields s h fs ds ≡ all_bytes s (atoms_of_fields h fs ds)
-  fields_spelled s h none [] no_windows eager bare = refl
-  fields_spelled s h none (f ∷ fs) no_windows eager bare = refl
-  fields_spelled s h (more d ds) [] no_windows eager bare = refl
-  fields_spelled s h (more d ds) (f ∷ fs) no_windows eager bare =
-      both_spelled (framed f (spelled_at s h f d)) (all_bytes s (atoms_of h f d)) (spelled_fields s h fs ds) (all_bytes s (atoms_of_fields h fs ds))
-      (unframed f (spelled_at s h f d) (or_first (is_lazy_type f) (list_any is_lazy_type fs) bare) ∙ value_spelled s h d f (and_first _ (is_whole_in ds) no_windows) (and_first _ (are_eager ds) eager))
-      (fields_spelled s h ds fs (and_second _ (is_whole_in ds) no_windows) (and_second _ (are_eager ds) eager) (or_second (is_lazy_type f) (list_any is_lazy_type fs) bare))
-      ∙ sym (bytes_append s (atoms_of h f d) (atoms_of_fields h fs ds))
-
-  value_spelled : (s : Tables) (h : Held) (d : Datum) (f : FieldType) → is_whole_at d ≡ true → is_eager_at d ≡ true → spelled_at s h f d ≡ all_bytes s (atoms_of h f d)
-  value_spelled s h (schema.child t) f no_windows eager = tree_spelled s h t no_windows eager
-  value_spelled s h schema.absent f no_windows eager = one_atom s (kind Null)
-  value_spelled s h (schema.listed ds) f no_windows eager = ap (λ (rest : List ℕ). atom_bytes s (count (schema.count ds)) ++ rest) (items_spelled s h ds no_windows eager)
-  value_spelled s h (schema.flag b) f no_windows eager = one_atom s (flag b)
-  value_spelled s h (schema.index n) f no_windows eager = one_atom s (index n)
-  value_spelled s h (schema.whole n) f no_windows eager = one_atom s (whole n)
-  value_spelled s h (schema.name n) f no_windows eager = one_atom s (text (text_of h n))
-  value_spelled s h schema.no_name f no_windows eager = one_atom s (text None)
-  value_spelled s h (schema.choice n) f no_windows eager = one_atom s (text (chosen f n))
-  value_spelled s h (schema.window from to) f no_windows eager = cc
-
-  items_spelled : (s : Tables) (h : Held) (ds : Data) → is_whole_in ds ≡ true → are_eager ds ≡ true → spelled_items s h ds ≡ all_bytes s (atoms_of_items h ds)
-  items_spelled s h none no_windows eager = refl
-  items_spelled s h (more d ds) no_windows eager =
-      both_spelled (spelled_at s h (field.Optional Body) d) (all_bytes s (atoms_of h (field.Optional Body) d)) (spelled_items s h ds) (all_bytes s (atoms_of_items h ds))
-      (value_spelled s h d (field.Optional Body) (and_first _ (is_whole_in ds) no_windows) (and_first _ (are_eager ds) eager))
-      (items_spelled s h ds (and_second _ (is_whole_in ds) no_windows) (and_second _ (are_eager ds) eager))
-      ∙ sym (bytes_append s (atoms_of h (field.Optional Body) d) (atoms_of_items h ds))
 
 -- ---- what an atom is spelled as stays when the tables grow
 
@@ -230,7 +135,7 @@ stands_kept s b (index m) there = tt
 stands_kept s b (whole m) there = tt
 stands_kept s b (window bytes) there = tt
 
-bytes_kept : (s : Tables) (b a : Atom) → Stands s a → atom_bytes s a ≡ atom_bytes (with_atom s b) a
+bytes_kept : (s : Tables) (b a : Atom) → Stands s a → spelled_atom s a ≡ spelled_atom (with_atom s b) a
 bytes_kept s b (kind k) there = same_number (place_of s.kinds k) (place_of (with_atom s b).kinds k) there.0 (length s.kinds) (length (with_atom s b).kinds) there.1 (kind_kept s b k there.0 there.1)
 bytes_kept s b (text entry) there = same_number (place_in s.texts entry) (place_in (with_atom s b).texts entry) there.0 (length s.texts) (length (with_atom s b).texts) there.1 (text_kept s b entry there.0 there.1)
 bytes_kept s b (count m) there = refl
@@ -243,12 +148,15 @@ pub stands_after : (s : Tables) (as' : List Atom) (a : Atom) → Stands s a → 
 stands_after s [] a there = there
 stands_after s (b ∷ as') a there = stands_after (with_atom s b) as' a (stands_kept s b a there)
 
-bytes_after : (s : Tables) (as' : List Atom) (a : Atom) → Stands s a → atom_bytes s a ≡ atom_bytes (used_from s as') a
+bytes_after : (s : Tables) (as' : List Atom) (a : Atom) → Stands s a → spelled_atom s a ≡ spelled_atom (used_from s as') a
 bytes_after s [] a there = refl
 bytes_after s (b ∷ as') a there = bytes_kept s b a there ∙ bytes_after (with_atom s b) as' a (stands_kept s b a there)
 
 abbrev ended : Tables → List ℕ → Written
 ended s bytes = record { tables = s; bytes = bytes }
+
+abbrev all_bytes : Tables → List Atom → List ℕ
+all_bytes s as' = flat_map (spelled_atom s) as'
 
 -- what was written of some atoms: the tables with what they use, and their bytes over these
 written_is : (w : Written) (as' : List Atom) → written w as' ≡ ended (used_from w.tables as') (w.bytes ++ all_bytes (used_from w.tables as') as')
@@ -258,32 +166,32 @@ written_is w (a ∷ as') =
     let r = used_from s as' in
     let rest = all_bytes r as' in
     written_is (with_next w a) as'
-    ∙ ap (ended r) (append_assoc w.bytes (atom_bytes s a) rest ∙ ap (λ (x : List ℕ). w.bytes ++ (x ++ rest)) (bytes_after s as' a (stands_next w.tables a)))
+    ∙ ap (ended r) (append_assoc w.bytes (spelled_atom s a) rest ∙ ap (λ (x : List ℕ). w.bytes ++ (x ++ rest)) (bytes_after s as' a (stands_next w.tables a)))
 
 abbrev pub start : Written
 start = record { tables = record { kinds = []; texts = [] }; bytes = [] }
 
-pub tree_written : (h : Held) (t : Tree) → is_whole t ≡ true → is_eager t ≡ true → written start (atoms h t) ≡ ended (tables_of h t) (spelled (tables_of h t) h t)
-tree_written h t no_windows eager = written_is start (atoms h t) ∙ ap (ended (tables_of h t)) (sym (tree_spelled (tables_of h t) h t no_windows eager))
+pub tree_written : (h : Held) (t : Tree) → typed t ≡ true → is_eager t ≡ true → written start (atoms h t) ≡ ended (tables_of h t) (spelled (tables_of h t) h t)
+tree_written h t well_typed eager = written_is start (atoms h t) ∙ ap (ended (tables_of h t)) (sym (tree_by_atoms (tables_of h t) h t well_typed (eager_is_folded t eager)))
 
 -- ---- the file
 
 -- a tree's bytes that are too large make a file that is
-pub tree_large : (fault : EncodeFault) (first new : Written) (h : Held) (t : Tree) → is_whole t ≡ true → is_eager t ≡ true → first ≡ start → Puts first (atoms h t) new (Err fault) → fault ≡ TooLarge → most_bytes < length (file h t)
-tree_large Memory first new h t no_windows eager begins puts is = cc
-tree_large TooLarge first new h t no_windows eager begins puts is =
+pub tree_large : (fault : EncodeFault) (first new : Written) (h : Held) (t : Tree) → typed t ≡ true → is_eager t ≡ true → first ≡ start → Puts first (atoms h t) new (Err fault) → fault ≡ TooLarge → most_bytes < length (file h t)
+tree_large Memory first new h t well_typed eager begins puts is = cc
+tree_large TooLarge first new h t well_typed eager begins puts is =
     let same : length (written first (atoms h t)).bytes ≡ length (spelled (tables_of h t) h t) =
-    ap (λ (w : Written). length (written w (atoms h t)).bytes) begins ∙ ap (λ (w : Written). length w.bytes) (tree_written h t no_windows eager) in
+    ap (λ (w : Written). length (written w (atoms h t)).bytes) begins ∙ ap (λ (w : Written). length w.bytes) (tree_written h t well_typed eager) in
     let within : length (spelled (tables_of h t) h t) ≤ length (file h t) = (parts_within (tables_of h t) (spelled (tables_of h t) h t)).2 in
     let large : most_bytes < length (written first (atoms h t)).bytes = puts in
     omega arith
 
 -- a writer that has written the tree holds its tables and bytes
-pub file_of_writer : (w : Writer) (first : Written) (h : Held) (t : Tree) → is_whole t ≡ true → is_eager t ≡ true → first ≡ start → so_far w ≡ written first (atoms h t)
+pub file_of_writer : (w : Writer) (first : Written) (h : Held) (t : Tree) → typed t ≡ true → is_eager t ≡ true → first ≡ start → so_far w ≡ written first (atoms h t)
     → container (record { kinds = w.kinds; texts = w.texts }) w.bytes.items ≡ file h t
-file_of_writer w first h t no_windows eager begins is =
-    ap (λ (x : Written). container x.tables x.bytes) (is ∙ ap (λ (x : Written). written x (atoms h t)) begins ∙ tree_written h t no_windows eager)
+file_of_writer w first h t well_typed eager begins is =
+    ap (λ (x : Written). container x.tables x.bytes) (is ∙ ap (λ (x : Written). written x (atoms h t)) begins ∙ tree_written h t well_typed eager)
 
-pub texts_of_writer : (w : Writer) (first : Written) (h : Held) (t : Tree) → is_whole t ≡ true → is_eager t ≡ true → first ≡ start → so_far w ≡ written first (atoms h t) → w.texts ≡ (tables_of h t).texts
-texts_of_writer w first h t no_windows eager begins is =
-    ap (λ (x : Written). x.tables.texts) (is ∙ ap (λ (x : Written). written x (atoms h t)) begins ∙ tree_written h t no_windows eager)
+pub texts_of_writer : (w : Writer) (first : Written) (h : Held) (t : Tree) → typed t ≡ true → is_eager t ≡ true → first ≡ start → so_far w ≡ written first (atoms h t) → w.texts ≡ (tables_of h t).texts
+texts_of_writer w first h t well_typed eager begins is =
+    ap (λ (x : Written). x.tables.texts) (is ∙ ap (λ (x : Written). written x (atoms h t)) begins ∙ tree_written h t well_typed eager)

@@ -1,16 +1,14 @@
 -- Trees that are written atom by atom, while the tables grow.
-use Rattle.std.specs.Prelude.{◌≡◌, ℕ, ◌<◌, ◌≤◌, ◌^◌, false, List, ◌∷◌, [], ◌++◌, Option, Some, Result, Ok, Err, length, slice_get, get_or, None, if◌then◌else◌}
-use Rattle.std.specs.Int.{w64, to_be_bytes}
+use Rattle.std.specs.Prelude.{◌≡◌, ℕ, ◌<◌, ◌≤◌, ◌^◌, false, List, ◌∷◌, [], ◌++◌, Option, Some, Result, Ok, Err, length, slice_get, get_or, None}
 use Rattle.std.specs.List.{AllByRecursion}
 use Rattle.bast_schema.specs.Fields.{has_lazy}
 use Rattle.bast_schema.specs.Held.{Held}
 use Rattle.bast_schema.specs.Tree as tree
 use Rattle.bast_schema.specs.Tree.{Data}
-use Rattle.container.specs.Atoms.{Atom, kind, count, flag, index, whole, text, window, atoms_of_items}
-use Rattle.container.specs.Tables.{Tables, kind_place, text_place}
+use Rattle.container.specs.Atoms.{Atom, kind, count, whole, window, atoms_of_items}
+use Rattle.container.specs.SpelledAtom.{spelled_atom}
+use Rattle.container.specs.Tables.{Tables}
 use Rattle.string_table.specs.Entries.{place_in}
-use Rattle.var_numbers.specs.Pattern.{pattern}
-use Rattle.var_numbers.specs.Varnum.{varnum}
 use Rattle.tree_encoder.specs.declared.fault.EncodeFault.{EncodeFault}
 use Rattle.tree_encoder.specs.declared.fault.EncodeFault.TheVariants.{Memory, TooLarge}
 use Rattle.tree_encoder.specs.declared.writer.Writer.{Writer}
@@ -26,23 +24,13 @@ IsPlain _ = Unit {0}
 abbrev pub AllPlain : List Atom → Type 0
 AllPlain as' = AllByRecursion IsPlain as'
 
--- the bytes of an atom over two tables
-abbrev pub atom_bytes : Tables → Atom → List ℕ
-atom_bytes s (kind k) = varnum (kind_place s k)
-atom_bytes s (count n) = varnum n
-atom_bytes s (flag b) = (if b then 1 else 0) ∷ []
-atom_bytes s (index n) = varnum n
-atom_bytes s (whole n) = to_be_bytes w64 (pattern n)
-atom_bytes s (text entry) = varnum (text_place s entry)
-atom_bytes s (window bytes) = varnum (length bytes) ++ bytes
-
 -- the tables and the bytes of the first atoms of a tree
 pub record Written : Type 0 where
   pub tables : Tables
   pub bytes : List ℕ
 
 abbrev pub with_bytes : Tables → List ℕ → Atom → Written
-with_bytes s bytes a = record { tables = s; bytes = bytes ++ atom_bytes s a }
+with_bytes s bytes a = record { tables = s; bytes = bytes ++ spelled_atom s a }
 
 -- one atom more: what it uses stands in the tables before it is spelled
 abbrev pub with_next : Written → Atom → Written

@@ -6,7 +6,7 @@ use Rattle.tree_decoder.specs.Range.{held, left}
 use Rattle.var_numbers.proofs.RangeLemmas.{range-length}
 use Rattle.tree_decoder.specs.Outer.{tree_range}
 use Rattle.binast_run.proofs.NamedTrees.{named_tree}
-use Rattle.binast_run.proofs.SizeSpelled.{size_spelled}
+use Rattle.container.proofs.SizeSpelled.{size_spelled}
 use Rattle.early_errors.proofs.Firsts.{nodes_size}
 use Rattle.binast_run.proofs.ReadFile.{layout_outside, outside-le}
 use Rattle.binast_run.proofs.files.read_file.Goals as goal

@@ -1,10 +1,9 @@
-use Rattle.std.proofs.Common.{codes, length, sym, ◌∙◌}
+use Rattle.std.proofs.Common.{codes, sym, ◌∙◌}
 use Rattle.std.proofs.lemmas.Result.{err_from_is_err_and}
 use Rattle.bast_base.specs.declared.errors.Why.TheVariants.{BadMagic}
 use Rattle.container.specs.Parts.{fixed_at, version_at}
 use Rattle.container.proofs.Answered.{answered}
 use Rattle.container.proofs.Counted.{version_fails, version_other, version_stands}
-use Rattle.container.proofs.Ranges.{version_lies}
 use Rattle.container.proofs.layout.read_head.Goals as goal
 
 pub returns-in_err-found-clause-exact : goal.returns-in_err-found-clause-exact
@@ -22,7 +21,3 @@ pub returns-clause-exact : goal.returns-clause-exact
 returns-clause-exact g c =
     let e = answered (fixed_at c.args.tape.now (codes "BINJS") BadMagic 0) (version_at c.args.tape.now) c.in_ok-at.at (sym c.in_ok-at.ensures.exact) in
     sym (e ∙ version_stands c.args.tape.now c.in_ok-at.at c.in_ok-found.found c.in_ok-found.next (rw c.len.ensures.count at c.in_ok-found.ensures.exact) c.if-found-ne-VERSION.false)
-
-pub returns-clause-spelled : goal.returns-clause-spelled
-returns-clause-spelled g c =
-    version_lies c.args.tape.now (codes "BINJS") 0 c.in_ok-at.at (length c.args.tape.now) c.in_ok-found.found c.in_ok-found.next c.in_ok-at.ensures.spelled (rw c.len.ensures.count at c.in_ok-found.ensures.spelled) c.if-found-ne-VERSION.false

@@ -1,7 +1,6 @@
 use Rattle.std.proofs.Common.{arith}
 use Rattle.std.proofs.lemmas.Result.{err_from_is_err_and}
 use Rattle.container.proofs.Counted.{counted_fails, counted_ended, counted_stands}
-use Rattle.container.proofs.Ranges.{counted_lies}
 use Rattle.container.proofs.parts.read_counted.Goals as goal
 
 pub returns-in_err-len-clause-exact : goal.returns-in_err-len-clause-exact
@@ -16,7 +15,3 @@ returns-then-len-end-clause-exact g c =
 pub returns-clause-exact : goal.returns-clause-exact
 returns-clause-exact g c =
     counted_stands c.args.tape.now c.args.at c.args.end c.in_ok-len.len c.in_ok-len.from c.in_ok-len.ensures.exact (omega (arith, c.in_ok-len.ensures.spelled.within))
-
-pub returns-clause-spelled : goal.returns-clause-spelled
-returns-clause-spelled g c =
-    counted_lies c.args.tape.now c.args.at c.args.end c.in_ok-len.len c.in_ok-len.from c.in_ok-len.ensures.spelled (omega (arith, c.in_ok-len.ensures.spelled.within)) c.requires.within

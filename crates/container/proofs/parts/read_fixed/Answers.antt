@@ -1,5 +1,5 @@
 use Rattle.std.proofs.Common.{◌≡◌, ℕ, length, arith, subst, sym, ◌∙◌}
-use Rattle.container.proofs.Fixed.{Shared, stops_there, ends_there, stands_there, lies_there}
+use Rattle.container.proofs.Fixed.{Shared, stops_there, ends_there, stands_there}
 use Rattle.container.proofs.parts.read_fixed.Given as given
 use Rattle.container.proofs.parts.read_fixed.Goals as goal
 
@@ -19,6 +19,3 @@ whole g c =
 
 pub returns-clause-exact : goal.returns-clause-exact
 returns-clause-exact g c = stands_there c.args.tape.now c.args.due.now c.args.why c.args.at c.due.place (whole g c)
-
-pub returns-clause-spelled : goal.returns-clause-spelled
-returns-clause-spelled g c = lies_there c.args.tape.now c.args.due.now c.args.at c.due.place c.requires (whole g c)

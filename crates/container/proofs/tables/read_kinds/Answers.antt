@@ -1,8 +1,6 @@
-use Rattle.std.proofs.Common.{arith, refl, length, ◌∙◌, ◌≡◌}
+use Rattle.std.proofs.Common.{arith, ◌∙◌}
 use Rattle.std.proofs.lemmas.Result.{err_from_is_err_and}
 use Rattle.container.specs.Entries.{more_kinds}
-use Rattle.container.specs.Clauses.{kind_entries}
-use Rattle.container.proofs.TableSpelled.{lies_none, table_spelled}
 use Rattle.container.proofs.TableLemmas.{table_start, table_fails, entries_more}
 use Rattle.container.proofs.tables.read_kinds.Goals as goal
 
@@ -17,8 +15,6 @@ entries-init g c = (
   omega (arith, c.in_ok-count.ensures.spelled.within),
   omega (arith, c.in_ok-count.ensures.spelled.ahead),
   omega (arith, c.in_ok-count.ensures.cost, c.in_ok-count.ensures.spelled.ahead),
-  rw c.new-kinds.ensures refl,
-  rw c.new-kinds.ensures (lies_none c.args.tape.now c.in_ok-count.start c.args.to c.in_ok-count.ensures.spelled.within),
 )
 
 pub entries-preserved : goal.entries-preserved
@@ -28,11 +24,4 @@ entries-preserved g c = (
   omega (arith, c.in_ok-place.ensures.ahead.1),
   omega (arith, c.in_ok-place.ensures.ahead.0),
   omega (arith, c.in_ok-place.ensures.cost, c.in_ok-place.ensures.ahead.0),
-  c.in_ok-place.ensures.spelled.count ∙ omega arith,
-  c.in_ok-place.ensures.spelled.lies c.in_ok-count.start c.entries.invariant.5,
 )
-
-pub returns-clause-spelled : goal.returns-clause-spelled
-returns-clause-spelled g c =
-    let all : length c.entries.kinds ≡ c.in_ok-count.count = omega arith in
-    table_spelled kind_entries c.args.tape.now c.args.from c.args.to c.in_ok-count.count c.in_ok-count.start c.entries.kinds c.entries.place c.in_ok-count.ensures.spelled c.entries.invariant.5 all c.in_ok-check_end.ensures

@@ -1,5 +1,4 @@
-use Rattle.std.proofs.Common.{◌≡◌, ◌+◌, ◌-◌, ◌≤◌, length}
-use Rattle.container.specs.Clauses.{Lies, kind_entries}
+use Rattle.std.proofs.Common.{◌≡◌, ◌+◌, ◌-◌, ◌≤◌}
 use Rattle.container.specs.Entries.{entries_at, table_at, more_kinds}
 use Rattle.container.proofs.tables.read_kinds.Given as goal
 
@@ -9,5 +8,3 @@ invariant-entries g l =
     × (l.place ≤ l.to)
     × (l.from ≤ l.place)
     × (l.steps ≤ l.fn.steps + (l.place - l.from))
-    × (length l.kinds ≡ l.counter)
-    × Lies l.tape l.start l.to (kind_entries l.kinds) l.place

@@ -1,8 +1,6 @@
-use Rattle.std.proofs.Common.{arith, refl, length, ◌∙◌, ◌≡◌}
+use Rattle.std.proofs.Common.{arith, ◌∙◌}
 use Rattle.std.proofs.lemmas.Result.{err_from_is_err_and}
 use Rattle.container.specs.Entries.{more_texts}
-use Rattle.container.specs.Clauses.{text_entries}
-use Rattle.container.proofs.TableSpelled.{lies_none, table_spelled}
 use Rattle.container.proofs.TableLemmas.{table_start, table_fails, entries_more, entry_fails}
 use Rattle.container.proofs.tables.read_texts.Goals as goal
 
@@ -18,8 +16,6 @@ entries-init g c = (
   omega (arith, c.in_ok-count.ensures.spelled.ahead),
   rw c.new-strings.ensures (omega (arith, c.in_ok-count.ensures.spelled.ahead)),
   omega (arith, c.in_ok-count.ensures.cost, c.in_ok-count.ensures.spelled.ahead),
-  rw c.new-strings.ensures refl,
-  rw c.new-strings.ensures (lies_none c.args.tape.now c.in_ok-count.start c.args.to c.in_ok-count.ensures.spelled.within),
 )
 
 pub entries-preserved : goal.entries-preserved
@@ -30,16 +26,9 @@ entries-preserved g c = (
   omega (arith, c.in_ok-place.ensures.ahead.0),
   omega (arith, c.in_ok-place.ensures.few),
   omega (arith, c.in_ok-place.ensures.cost, c.in_ok-place.ensures.ahead.0),
-  c.in_ok-place.ensures.spelled.count ∙ omega arith,
-  c.in_ok-place.ensures.spelled.lies c.in_ok-count.start c.entries.invariant.6,
 )
 
 pub returns-in_err-place-clause-exact : goal.returns-in_err-place-clause-exact
 returns-in_err-place-clause-exact g c =
     let r = err_from_is_err_and c.from_residual-in_err-place.result c.from_residual-in_err-place.ensures.1 in
     rw (r.1, r.2) (entry_fails more_texts c.args.tape.now c.args.to c.args.from c.in_ok-count.count c.entries.counter c.entries.strings c.read_text.new.strings c.entries.place c.in_err-place.field-0.0 c.entries-test.true c.entries.invariant.0 c.in_err-place.ensures.exact)
-
-pub returns-clause-spelled : goal.returns-clause-spelled
-returns-clause-spelled g c =
-    let all : length c.entries.strings ≡ c.in_ok-count.count = omega arith in
-    table_spelled text_entries c.args.tape.now c.args.from c.args.to c.in_ok-count.count c.in_ok-count.start c.entries.strings c.entries.place c.in_ok-count.ensures.spelled c.entries.invariant.6 all c.in_ok-check_end.ensures

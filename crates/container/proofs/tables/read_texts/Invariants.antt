@@ -1,5 +1,4 @@
 use Rattle.std.proofs.Common.{◌≡◌, ◌+◌, ◌-◌, ◌<◌, ◌≤◌, length}
-use Rattle.container.specs.Clauses.{Lies, text_entries}
 use Rattle.container.specs.Entries.{entries_at, table_at, more_texts}
 use Rattle.container.proofs.tables.read_texts.Given as goal
 
@@ -10,5 +9,3 @@ invariant-entries g l =
     × (l.from ≤ l.place)
     × (length l.strings < l.place)
     × (l.steps ≤ l.fn.steps + (l.place - l.from))
-    × (length l.strings ≡ l.counter)
-    × Lies l.tape l.start l.to (text_entries l.strings) l.place

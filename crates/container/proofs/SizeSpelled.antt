@@ -17,7 +17,7 @@ use Rattle.container.specs.Tables.{Tables, kind_place, text_place}
 use Rattle.bast_schema.specs.declared.kind.Kind.TheVariants.{Null}
 use Rattle.std.specs.Int.{w64, to_be_bytes}
 use Rattle.var_numbers.specs.Pattern.{pattern}
-use Rattle.binast_run.proofs.EagerWhole.{child_fits, listed_fits}
+use Rattle.container.proofs.Values.{child_fits, is_window, item_window, listed_fits}
 
 -- a frame only adds bytes
 framed_more : (f : FieldType) (bytes : List ℕ) → length bytes ≤ length (framed f bytes)
@@ -37,10 +37,6 @@ framed_more (field.Choice set) bytes = omega arith
 parts : (xs ys : List ℕ) (m n : ℕ) → m ≤ length xs → n ≤ length ys → m + n ≤ length (xs ++ ys)
 parts xs ys m n first rest = omega (arith, length-append xs ys)
 
-abbrev is_window : Datum → Bool
-is_window (window from to) = true
-is_window _ = false
-
 whole_bytes : (n : ℕ) → length (to_be_bytes w64 (pattern n)) ≡ 8
 whole_bytes n = refl
 
@@ -58,19 +54,6 @@ framed_size s h (whole n) f is rest = omega (arith, rest refl, framed_more f (sp
 framed_size s h (name n) f is rest = omega (arith, rest refl, framed_more f (spelled_at s h f (name n)))
 framed_size s h no_name f is rest = omega (arith, rest refl, framed_more f (spelled_at s h f no_name))
 framed_size s h (choice n) f is rest = omega (arith, rest refl, framed_more f (spelled_at s h f (choice n)))
-
-item_window : (u : Union) (holes : Bool) (d : Datum) → fits (item_type u holes) d ≡ true → is_window d ≡ false
-item_window u true (window from to) is = cc
-item_window u false (window from to) is = cc
-item_window u holes (child t) is = refl
-item_window u holes (listed ds) is = refl
-item_window u holes absent is = refl
-item_window u holes (flag b) is = refl
-item_window u holes (index n) is = refl
-item_window u holes (whole n) is = refl
-item_window u holes (name n) is = refl
-item_window u holes no_name is = refl
-item_window u holes (choice n) is = refl
 
 mutual
   pub size_spelled : (s : Tables) (h : Held) (t : Tree) → typed t ≡ true → size t ≤ length (spelled s h t)
