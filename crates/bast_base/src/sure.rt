@@ -10,7 +10,8 @@ ghost use Rattle.bast_base.specs.Steps.{raised};
 use crate::{Failed, Inlet, Sink, Source};
 use std::marker::Model;
 
-/// A source over memory that never fails. A read takes as much as there is room for.
+/// A source over memory that never fails. A read takes a prefix of what is left, and nothing only where nothing is left
+/// or there is no room.
 #[derive(Drop)]
 pub struct SureSource {
     bytes: Vec<u8>,

@@ -6,7 +6,7 @@ ghost use Rattle.js_printer.specs.StringForm.{escaped, string_form};
 use bast_base::Memory;
 use std::alloc::Global;
 
-/// The string form of a text: a string literal in double quotes (ECMA-262, section 11.8.4) whose value is the text.
+/// The string form of a text: the text between double quotes, in the form of a string literal (ECMA-262, section 11.8.4).
 ///
 /// The quote, the backslash and the line terminators of section 11.3 are escaped, and every other character stands as it
 /// is. An error comes only where memory runs out.

@@ -60,7 +60,7 @@ pub enum Rule {
     A3,
     /// The entries of a scope of parameters are not its parameters.
     A4,
-    /// The entry of a scope of one name is not that name.
+    /// A scope of one name has another entry than the one name that its node binds, or an entry where it binds none.
     A5,
 }
 
