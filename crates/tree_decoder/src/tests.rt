@@ -1,6 +1,7 @@
-use crate::read_tree;
+use crate::{ReadRefusal, decode, read_tree};
 use bast_base::{Chars, FormatFault, Halt, Plain, Steps, Tape, Why};
 use bast_schema::{Kind, KindTable, Node};
+use scope_facts::Rule;
 use std::alloc::Global;
 use std::test::Fail;
 use string_table::{Entry, StringTable};
@@ -175,5 +176,54 @@ fn no_node_is_too_deep(rt: HostRuntime) -> Result<(), Fail> {
     let script = read(alloc, &deep(alloc, 509)?)??;
     assert_eq!(rt; script.depth(), 512);
     assert!(rt; has_fault(alloc, &deep(alloc, 510)?, 1027, Why::TooDeep)?);
+    Ok(())
+}
+
+// `eval("1");`, whose scope tells the direct eval
+const EVAL: &[u8] = b"BINJS\x02[GRAMMAR]identity;\xE4\x0C\x0CScript2AssertedScriptGlobalScope&ExpressionStatement\x1CCallExpression(IdentifierExpression.LiteralStringExpression[STRINGS]identity;\x10\x04\x08eval\x021[TREE]identity;\x1A\0\0\x02\0\x01\x02\x04\x06\x08\0\x02\n\x02";
+
+// the same, whose scope does not tell it
+const UNTOLD_EVAL: &[u8] = b"BINJS\x02[GRAMMAR]identity;\xE4\x0C\x0CScript2AssertedScriptGlobalScope&ExpressionStatement\x1CCallExpression(IdentifierExpression.LiteralStringExpression[STRINGS]identity;\x10\x04\x08eval\x021[TREE]identity;\x1A\0\0\x02\0\0\x02\x04\x06\x08\0\x02\n\x02";
+
+// `function f() {}`, which is lazy
+const LAZY: &[u8] = b"BINJS\x02[GRAMMAR]identity;c\x02\x14\x0CScript2AssertedScriptGlobalScope(AssertedDeclaredName.LazyFunctionDeclaration\"BindingIdentifier FunctionContents,AssertedParameterScope FormalParameters\n_Null AssertedVarScope[STRINGS]identity;\x0E\x04\x02f\x06var[TREE]identity;6\0\0\x02\x02\x04\0\x02\0\0\x02\x06\x08\0\0\x18\n\x0C\0\0\x01\x0E\0\x10\x12\0\0\0";
+
+// What a file is read as, of which the first thousands of bytes count.
+fn decoded(
+    alloc: Global,
+    file: &[u8],
+) -> Result<Result<(Node, StringTable), ReadRefusal>, Fail> {
+    let tape: Tape<Plain> = Tape::from_vec(Vec::from_slice(alloc, &file[..file.len().min(4000)])?);
+    let mut steps = Steps::start();
+    Ok(decode(alloc, &tape, &mut steps))
+}
+
+#[test]
+fn whole_files_are_read_or_refused(rt: HostRuntime) -> Result<(), Fail> {
+    let alloc = rt.alloc();
+    match decoded(alloc, EVAL)? {
+        Ok((tree, strings)) => {
+            assert!(rt; tree.kind() == Kind::Script);
+            assert!(rt; strings.find("eval").is_some());
+        }
+        Err(_) => return Err(Fail::new("an accepted file is refused")),
+    }
+    match decoded(alloc, UNTOLD_EVAL)? {
+        Err(ReadRefusal::Check { violation, name }) => {
+            assert!(rt; violation.node == 3 && violation.rule == Rule::A3);
+            assert!(rt; name.is_some_and(|text| text.as_str() == "eval"));
+        }
+        _ => return Err(Fail::new("a scope that tells no eval is not refused")),
+    }
+    match decoded(alloc, LAZY)? {
+        Err(ReadRefusal::NotYet { node }) => assert!(rt; node == 3),
+        _ => return Err(Fail::new("a lazy function is not refused")),
+    }
+    match decoded(alloc, &EVAL[..100])? {
+        Err(ReadRefusal::Format(fault)) => {
+            assert!(rt; fault == FormatFault { at: 100, why: Why::Ended });
+        }
+        _ => return Err(Fail::new("a cut file is not refused")),
+    }
     Ok(())
 }
