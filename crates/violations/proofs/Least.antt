@@ -84,7 +84,7 @@ both_empty [] (w ∷ us) e = absurd cc
 both_empty (v ∷ es) [] e = absurd cc
 both_empty (v ∷ es) (w ∷ us) e = absurd cc
 
-pub lists_of : (texts : List (Option (List ℕ))) (c : Ctx) (t : Tree) → Lists (early texts c t) (untrue texts c t)
+lists_of : (texts : List (Option (List ℕ))) (c : Ctx) (t : Tree) → Lists (early texts c t) (untrue texts c t)
 lists_of texts c t =
     let e = early_along texts c t in
     let u = untrue_along texts c t in

@@ -32,7 +32,7 @@ one_there n r x is = record { between = ((is, omega arith, omega arith), tt); le
 use_then_eval : (n : ℕ) (x e : Option ℕ) (fine calls : Bool) → Along IsUntrue n (n + 1) ((if fine then [] else violation n A2 x ∷ []) ++ (if calls then violation n A3 e ∷ [] else []))
 use_then_eval n x e true true = one_there n A3 e (lit≤ tt)
 use_then_eval n x e true false = nowhere IsUntrue n (n + 1)
-use_then_eval n x e false true = record { between = ((lit≤ tt, omega arith, omega arith), (lit≤ tt, omega arith, omega arith), tt); led = (inr (refl, lit≤ tt), tt) }
+use_then_eval n x e false true = record { between = ((lit≤ tt, omega arith, omega arith), ((lit≤ tt, omega arith, omega arith), tt)); led = (inr (refl, lit≤ tt), tt) }
 use_then_eval n x e false false = one_there n A2 x (lit≤ tt)
 
 of_finding : (n : ℕ) (r : Rule) (f : Finding) → place_of A1 ≤ place_of r → Along IsUntrue n (n + 1) (found n r f)
