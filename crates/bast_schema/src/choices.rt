@@ -5,6 +5,25 @@ ghost use Rattle.bast_schema.specs.Choices.{choice_texts, choice_of_text};
 
 use crate::kind::EnumId;
 
+/// The choice `var` of `EnumId::DeclaredKind`.
+pub const DECLARED_VAR: u8 = 0;
+/// The choice `non-const lexical` of `EnumId::DeclaredKind`.
+pub const DECLARED_LEXICAL: u8 = 1;
+/// The choice `const lexical` of `EnumId::DeclaredKind`.
+pub const DECLARED_CONST: u8 = 2;
+/// The choice `let` of `EnumId::LexicalKind`.
+pub const LEXICAL_LET: u8 = 0;
+/// The choice `const` of `EnumId::LexicalKind`.
+pub const LEXICAL_CONST: u8 = 1;
+/// The choice `var` of `EnumId::ForKind`.
+pub const FOR_VAR: u8 = 0;
+/// The choice `let` of `EnumId::ForKind`.
+pub const FOR_LET: u8 = 1;
+/// The choice `const` of `EnumId::ForKind`.
+pub const FOR_CONST: u8 = 2;
+/// The choice `delete` of `EnumId::UnaryOperator`.
+pub const UNARY_DELETE: u8 = 6;
+
 /// The texts of a set of choices.
 fn texts_of(set: EnumId) -> &'static [&'static str]
     ensures texts { map (λ t. t.now) result.now ≡ choice_texts set }

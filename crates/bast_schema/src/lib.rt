@@ -9,16 +9,21 @@ mod choices;
 mod edits;
 mod fields;
 mod kind;
+mod laws;
 mod names;
 mod node;
 mod sizes;
 mod table;
 mod unions;
 
-pub use choices::{choice_of, choice_text, choices_in};
+pub use choices::{
+    DECLARED_CONST, DECLARED_LEXICAL, DECLARED_VAR, FOR_CONST, FOR_LET, FOR_VAR, LEXICAL_CONST,
+    LEXICAL_LET, UNARY_DELETE, choice_of, choice_text, choices_in,
+};
 pub use edits::{put_first, rebuilt, take_first};
 pub use fields::{field_name, fields_of, is_lazy};
 pub use kind::{EnumId, FieldType, Kind, Union};
+pub use laws::named_choices_have_their_texts;
 pub use names::{is_counted, kind_named, kind_numbered, name_of, number_of};
 pub use node::{Node, NodeFault, Value, Values};
 pub use sizes::values_left;

@@ -88,11 +88,11 @@ fn an_operand_of_depth_512_makes_a_node_too_deep(rt: HostRuntime) -> Result<(), 
     let alloc = rt.alloc();
     let mut operand = Node::new(Kind::ThisExpression, Vec::new(alloc))?;
     for _ in 0..511u32 {
-        let fields = vec![in alloc; Value::Choice(0), Value::Node(operand)]?;
+        let fields = vec![in alloc; Value::Choice(UNARY_DELETE), Value::Node(operand)]?;
         operand = Node::new(Kind::UnaryExpression, fields)?;
     }
     assert_eq!(rt; operand.depth(), 512);
-    let fields = vec![in alloc; Value::Choice(0), Value::Node(operand)]?;
+    let fields = vec![in alloc; Value::Choice(UNARY_DELETE), Value::Node(operand)]?;
     assert_eq!(rt;
         Node::new(Kind::UnaryExpression, fields).err(),
         Some(NodeFault::TooDeep)

@@ -2,10 +2,9 @@
 use Rattle.std.proofs.Common.{ℕ, [], ◌∷◌, ◌≡◌, refl, Option, Some, None, false}
 use Rattle.std.specs.Prelude.{codes}
 use Rattle.std.specs.Str.{chars}
-use Rattle.bast_schema.specs.declared.kind.EnumId.TheVariants.{UnaryOperator, LexicalKind}
 use Rattle.bast_schema.specs.declared.kind.Kind.{Kind}
 use Rattle.bast_schema.specs.declared.kind.Kind.TheVariants as kind
-use Rattle.bast_schema.specs.Choices.{choice_of_text}
+use Rattle.bast_schema.specs.Choices.{lexical_let, lexical_const, unary_delete}
 use Rattle.bast_schema.specs.Tree.{Tree, branch, Datum, child, absent, listed, flag, whole, name, no_name, choice, Data, none, more}
 use Rattle.scope_facts.specs.declared.context.Ctx.{Ctx}
 use Rattle.scope_facts.specs.declared.context.Rule.{Rule}
@@ -13,13 +12,6 @@ use Rattle.scope_facts.specs.declared.context.Rule.TheVariants.{E1, E2, E3, E4, 
 use Rattle.scope_facts.specs.declared.context.Violation.{Violation}
 use Rattle.early_errors.specs.Strict.{Texts}
 use Rattle.early_errors.specs.Early.{early, early_rules, first}
-
--- the choices that the rules name by their numbers
-delete_is : choice_of_text UnaryOperator (codes "delete") ≡ Some 6
-delete_is = refl
-
-const_is : choice_of_text LexicalKind (codes "const") ≡ Some 1
-const_is = refl
 
 -- the texts of the rows; `_` is the name that they use
 abbrev texts : Texts
@@ -62,10 +54,10 @@ abbrev declarator : ℕ → Datum
 declarator n = node kind.VariableDeclarator (more (binding n) (one absent))
 
 abbrev lets : Data → Datum
-lets ds = node kind.LexicalDeclaration (more (choice 0) (one (listed ds)))
+lets ds = node kind.LexicalDeclaration (more (choice lexical_let) (one (listed ds)))
 
 abbrev consts : Data → Datum
-consts ds = node kind.LexicalDeclaration (more (choice 1) (one (listed ds)))
+consts ds = node kind.LexicalDeclaration (more (choice lexical_const) (one (listed ds)))
 
 abbrev vars : Data → Datum
 vars ds = node kind.VarDeclaration (one (listed ds))
@@ -121,7 +113,7 @@ unfolding early_rules chars
 eval_assigned = refl
 
 -- "use strict"; delete _;
-name_deleted : found (script (one (directive 1)) (one (statement (node kind.UnaryExpression (more (choice 6) (one (reference 0))))))) ≡ breaks_name 4 E7 0
+name_deleted : found (script (one (directive 1)) (one (statement (node kind.UnaryExpression (more (choice unary_delete) (one (reference 0))))))) ≡ breaks_name 4 E7 0
 unfolding early_rules chars
 name_deleted = refl
 
@@ -136,7 +128,7 @@ unfolding early_rules chars
 strict_name = refl
 
 -- ({ [delete _](){ "use strict" } })
-computed_key : found (script none (one (statement (node kind.ObjectExpression (one (listed (one (node kind.EagerMethod (more (node kind.ComputedPropertyName (one (node kind.UnaryExpression (more (choice 6) (one (reference 0)))))) (more (listed (one (directive 1))) (one (contents none none)))))))))))) ≡ None
+computed_key : found (script none (one (statement (node kind.ObjectExpression (one (listed (one (node kind.EagerMethod (more (node kind.ComputedPropertyName (one (node kind.UnaryExpression (more (choice unary_delete) (one (reference 0)))))) (more (listed (one (directive 1))) (one (contents none none)))))))))))) ≡ None
 unfolding early_rules chars
 computed_key = refl
 

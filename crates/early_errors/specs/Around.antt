@@ -1,5 +1,6 @@
 -- What stands around the nodes of a tree, and its nodes in preorder.
 use Rattle.std.specs.Prelude.{ℕ, Bool, true, false, Option, Some, None, List, [], ◌∷◌, ◌++◌, ◌+◌, ◌||◌, nat_eq, if◌then◌else◌}
+use Rattle.bast_schema.specs.Choices.{lexical_const}
 use Rattle.bast_schema.specs.Tree.{Tree, branch, Datum, child, listed, choice, Data, none, more, nodes_at}
 use Rattle.scope_facts.specs.Uses.{first_name}
 use Rattle.scope_facts.specs.declared.context.Ctx.{Ctx}
@@ -37,9 +38,9 @@ abbrev mutual
   loop_in none = false
   loop_in (more d ds) = loop_at d || loop_in ds
 
--- whether a declaration is one with const (choice 1)
+-- whether a declaration is one with const
 abbrev pub is_const : Data → Bool
-is_const (more (choice n) ds) = nat_eq n 1
+is_const (more (choice n) ds) = nat_eq n lexical_const
 is_const _ = false
 
 -- around the parts of a node

@@ -1,5 +1,6 @@
 -- The names that a node declares for the rules, and the parameters of a function.
 use Rattle.std.specs.Prelude.{ℕ, Bool, true, false, Option, None, List, [], ◌∷◌, ◌++◌, nat_eq, if◌then◌else◌}
+use Rattle.bast_schema.specs.Choices.{unary_delete}
 use Rattle.bast_schema.specs.Tree.{branch, Datum, child, listed, choice, Data, none, more}
 use Rattle.scope_facts.specs.declared.names.Declared.{Declared}
 use Rattle.scope_facts.specs.declared.names.NameKind.{NameKind}
@@ -112,7 +113,7 @@ abbrev pub bare_name : Role → Data → Option ℕ
 bare_name Declarator ds = bare_of ds
 bare_name _ ds = None
 
--- the name that is deleted, where the operand of delete (choice 6) is one
+-- the name that is deleted, where the operand of delete is one
 abbrev pub use_name : Role → Data → Option ℕ
 use_name Use ds = first_name ds
 use_name _ ds = None
@@ -126,7 +127,7 @@ used_first none = None
 used_first (more d ds) = used_name d
 
 abbrev pub is_delete : Datum → Bool
-is_delete (choice n) = nat_eq n 6
+is_delete (choice n) = nat_eq n unary_delete
 is_delete _ = false
 
 abbrev pub deleted_of : Data → Option ℕ

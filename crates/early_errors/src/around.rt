@@ -7,7 +7,7 @@ use crate::kinds::{Place, Role, role_of};
 use crate::known::KnownTexts;
 use crate::strict::is_own_strict;
 use bast_base::Memory;
-use bast_schema::{Node, Value};
+use bast_schema::{LEXICAL_CONST, Node, Value};
 use scope_facts::{Ctx, first_name_of};
 use std::alloc::Global;
 
@@ -84,7 +84,7 @@ fn is_constant(fields: &[Value]) -> bool
     match fields {
         [] => false,
         [first, ..] => match first {
-            Value::Choice(choice) => *choice == 1,
+            Value::Choice(choice) => *choice == LEXICAL_CONST,
             _ => false,
         },
     }

@@ -5,7 +5,7 @@ ghost use Rattle.early_errors.specs.Declares.{behind, is_var, lexical_of, var_of
 
 use crate::kinds::{Role, role_of};
 use bast_base::Memory;
-use bast_schema::Value;
+use bast_schema::{UNARY_DELETE, Value};
 use scope_facts::{
     Declared, Form, NameKind, are_simple, bound_name, first_name_of, form_of, put_bound,
     put_bound_below, put_items, put_lexicals_in, put_tops_in, put_vars_in,
@@ -277,7 +277,7 @@ fn is_delete(value: &Value) -> bool
     ensures { result ≡ is_delete (datum value.now) }
 {
     match value {
-        Value::Choice(choice) => *choice == 6,
+        Value::Choice(choice) => *choice == UNARY_DELETE,
         _ => false,
     }
 }

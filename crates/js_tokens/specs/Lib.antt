@@ -2,6 +2,7 @@ pub mod Place
 pub mod Classes
 pub mod Words
 pub mod Marks
+pub mod Spelling
 pub mod MarkTree
 pub mod Numbers
 pub mod Escapes

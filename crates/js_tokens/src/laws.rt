@@ -1,6 +1,7 @@
-//! Laws of the cut of a text. Each function does nothing: its clause is the law.
+//! Laws of the cut of a text and of spellings. Each function does nothing: its clause is the law.
 
 ghost use Rattle.js_tokens.specs.Laws.{HasOneCut, HasOneFault, HasNotBoth, HasEither, AreTheText, IsLongestName, IsLongestMark, IsWholeNumber};
+ghost use Rattle.js_tokens.specs.Spelling.{SpellingsAreRead};
 
 /// A text has at most one list of tokens.
 pub fn text_has_one_cut()
@@ -40,4 +41,9 @@ pub fn punctuator_is_longest()
 /// What could go on with a number does not follow one.
 pub fn number_is_whole()
     ensures { IsWholeNumber }
+{}
+
+/// A punctuator or a reserved word is read where its spelling stands.
+pub fn spellings_are_read()
+    ensures { SpellingsAreRead }
 {}

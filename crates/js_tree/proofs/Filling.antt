@@ -2,6 +2,7 @@
 use Rattle.std.proofs.Common.{◌≡◌, Bool, true, false, ◌&&◌, inl, inr, List, [], ◌∷◌, Option, Some, None, Ok, Err, refl, sym, ap, subst, cond}
 use lib.Dec.{eqb}
 use Rattle.bast_base.specs.declared.errors.NameId.{NameId}
+use Rattle.bast_schema.specs.Choices.{lexical_let, lexical_const, for_var, for_let, for_const}
 use Rattle.bast_schema.specs.declared.kind.FieldType.{FieldType}
 use Rattle.bast_schema.specs.declared.kind.FieldType.TheVariants as field
 use Rattle.bast_schema.specs.declared.kind.Kind.{Kind}
@@ -88,9 +89,9 @@ fills_sound m maker a x w ps qs fit_is same is =
 
 -- what the head of a `for` declares
 for_of : (m : Maker) → IsMaker m → (how : Declared) (b : Datum) → fits (field.Node (unions.One kinds.BindingIdentifier)) b ≡ true → Safely (Is unions.ForTarget) (m kinds.ForInOfBinding (two (choice (for_kind how)) b))
-for_of m maker declared.Var b is = made_in m maker unions.ForTarget kinds.ForInOfBinding (two (choice 0) b) refl (both _ _ is refl)
-for_of m maker declared.Let b is = made_in m maker unions.ForTarget kinds.ForInOfBinding (two (choice 1) b) refl (both _ _ is refl)
-for_of m maker declared.Const b is = made_in m maker unions.ForTarget kinds.ForInOfBinding (two (choice 2) b) refl (both _ _ is refl)
+for_of m maker declared.Var b is = made_in m maker unions.ForTarget kinds.ForInOfBinding (two (choice for_var) b) refl (both _ _ is refl)
+for_of m maker declared.Let b is = made_in m maker unions.ForTarget kinds.ForInOfBinding (two (choice for_let) b) refl (both _ _ is refl)
+for_of m maker declared.Const b is = made_in m maker unions.ForTarget kinds.ForInOfBinding (two (choice for_const) b) refl (both _ _ is refl)
 
 declarators_fit : (ds : Data) → RestIs declarators ds → items_fit (unions.One kinds.VariableDeclarator) false ds ≡ true
 declarators_fit none is = refl
@@ -98,8 +99,8 @@ declarators_fit (more d ds) is = both _ _ is.0 (declarators_fit ds is.1)
 
 declaration_safe : (m : Maker) → IsMaker m → (how : Declared) (d : Datum) (ds : Data) → items_fit (unions.One kinds.VariableDeclarator) false (more d ds) ≡ true → Safely (Is unions.ForInit) (declaration m how (more d ds))
 declaration_safe m maker declared.Var d ds is = made_in m maker unions.ForInit kinds.VarDeclaration (one (listed (more d ds))) refl (both _ _ is refl)
-declaration_safe m maker declared.Let d ds is = made_in m maker unions.ForInit kinds.LexicalDeclaration (two (choice 0) (listed (more d ds))) refl (both _ _ is refl)
-declaration_safe m maker declared.Const d ds is = made_in m maker unions.ForInit kinds.LexicalDeclaration (two (choice 1) (listed (more d ds))) refl (both _ _ is refl)
+declaration_safe m maker declared.Let d ds is = made_in m maker unions.ForInit kinds.LexicalDeclaration (two (choice lexical_let) (listed (more d ds))) refl (both _ _ is refl)
+declaration_safe m maker declared.Const d ds is = made_in m maker unions.ForInit kinds.LexicalDeclaration (two (choice lexical_const) (listed (more d ds))) refl (both _ _ is refl)
 
 declared_safe : (m : Maker) → IsMaker m → (how : Declared) (b : Datum) (ds : Data) → fits (field.Node (unions.One kinds.BindingIdentifier)) b ≡ true → Holds (Of (field.Optional unions.Expression) ∷ []) declarators ds
     → Safely (Is unions.ForInit) (left_of m how b (forms.Declared ds))

@@ -1,5 +1,6 @@
 -- What a row makes of what was gathered holds what was gathered.
 use Rattle.std.proofs.Common.{◌≡◌, ℕ, ◌==◌, cond, Bool, true, false, length, List, [], ◌∷◌, Option, Some, None, Result, Ok, refl}
+use Rattle.bast_schema.specs.Choices.{lexical_let, lexical_const}
 use Rattle.bast_schema.specs.declared.kind.Kind.TheVariants as kinds
 use Rattle.bast_schema.specs.Counts.{join}
 use Rattle.bast_schema.specs.Tree.{Tree, Datum, child, absent, listed, name, choice, Data, none, more, count, is_none}
@@ -128,8 +129,8 @@ fills_held P w ps h k =
 
 declaration_held : (m : Maker) (P : Datum → Type 0) → Kept m P → (how : Declared) (ds : Data) → Each P ds → Holds (Has P) (declaration m how ds)
 declaration_held m P kept declared.Var ds h = node_made m P kept kinds.VarDeclaration (one (listed ds)) refl (kept.list ds h, tt)
-declaration_held m P kept declared.Let ds h = node_made m P kept kinds.LexicalDeclaration (two (choice 0) (listed ds)) refl (kept.choices 0, (kept.list ds h, tt))
-declaration_held m P kept declared.Const ds h = node_made m P kept kinds.LexicalDeclaration (two (choice 1) (listed ds)) refl (kept.choices 1, (kept.list ds h, tt))
+declaration_held m P kept declared.Let ds h = node_made m P kept kinds.LexicalDeclaration (two (choice lexical_let) (listed ds)) refl (kept.choices lexical_let, (kept.list ds h, tt))
+declaration_held m P kept declared.Const ds h = node_made m P kept kinds.LexicalDeclaration (two (choice lexical_const) (listed ds)) refl (kept.choices lexical_const, (kept.list ds h, tt))
 
 left_held : (m : Maker) (P : Datum → Type 0) → Kept m P → (how : Declared) (b : Datum) (f : Form) → P b → HoldsForm P f → Holds (Has P) (left_of m how b f)
 left_held m P kept how b forms.Plain h k = node_made m P kept kinds.ForInOfBinding (two (choice (for_kind how)) b) refl (kept.choices (for_kind how), (h, tt))

@@ -1,6 +1,7 @@
 -- What a row makes with the limit follows what it makes without it.
 use Rattle.std.proofs.Common.{◌≡◌, ◌≤◌, max, cond, Bool, true, false, List, [], ◌∷◌, Option, Some, None, Ok, sym, subst, arith}
 use Rattle.bast_base.specs.declared.errors.NameId.{NameId}
+use Rattle.bast_schema.specs.Choices.{lexical_let, lexical_const}
 use Rattle.bast_schema.specs.declared.kind.Kind.{Kind}
 use Rattle.bast_schema.specs.declared.kind.Kind.TheVariants as kinds
 use Rattle.bast_schema.specs.Counts.{join}
@@ -29,13 +30,13 @@ declaration_follows C declared.Var ds =
     known (C × FlatIn ds) (λ u. C × Flat u) (λ u. branch kinds.VarDeclaration (one (listed ds)) ≡ u) (λ u. Unit {0}) (limited kinds.VarDeclaration (one (listed ds))) (unlimited kinds.VarDeclaration (one (listed ds))) tt
     (weaker (C × FlatIn (one (listed ds))) (C × FlatIn ds) (λ u. C × Flat u) (λ u. branch kinds.VarDeclaration (one (listed ds)) ≡ u) (limited kinds.VarDeclaration (one (listed ds))) (unlimited kinds.VarDeclaration (one (listed ds))) (λ h. (h.0, alone (listed ds) h.1)) (node_follows C kinds.VarDeclaration (one (listed ds))))
 declaration_follows C declared.Let ds =
-    known (C × FlatIn ds) (λ u. C × Flat u) (λ u. branch kinds.LexicalDeclaration (two (choice 0) (listed ds)) ≡ u) (λ u. Unit {0}) (limited kinds.LexicalDeclaration (two (choice 0) (listed ds))) (unlimited kinds.LexicalDeclaration (two (choice 0) (listed ds))) tt
-    (weaker (C × FlatIn (two (choice 0) (listed ds))) (C × FlatIn ds) (λ u. C × Flat u) (λ u. branch kinds.LexicalDeclaration (two (choice 0) (listed ds)) ≡ u) (limited kinds.LexicalDeclaration (two (choice 0) (listed ds))) (unlimited kinds.LexicalDeclaration (two (choice 0) (listed ds)))
-    (λ h. let a : depth_in (two (choice 0) (listed ds)) ≤ 512 = h.1 in (h.0, omega (arith, a))) (node_follows C kinds.LexicalDeclaration (two (choice 0) (listed ds))))
+    known (C × FlatIn ds) (λ u. C × Flat u) (λ u. branch kinds.LexicalDeclaration (two (choice lexical_let) (listed ds)) ≡ u) (λ u. Unit {0}) (limited kinds.LexicalDeclaration (two (choice lexical_let) (listed ds))) (unlimited kinds.LexicalDeclaration (two (choice lexical_let) (listed ds))) tt
+    (weaker (C × FlatIn (two (choice lexical_let) (listed ds))) (C × FlatIn ds) (λ u. C × Flat u) (λ u. branch kinds.LexicalDeclaration (two (choice lexical_let) (listed ds)) ≡ u) (limited kinds.LexicalDeclaration (two (choice lexical_let) (listed ds))) (unlimited kinds.LexicalDeclaration (two (choice lexical_let) (listed ds)))
+    (λ h. let a : depth_in (two (choice lexical_let) (listed ds)) ≤ 512 = h.1 in (h.0, omega (arith, a))) (node_follows C kinds.LexicalDeclaration (two (choice lexical_let) (listed ds))))
 declaration_follows C declared.Const ds =
-    known (C × FlatIn ds) (λ u. C × Flat u) (λ u. branch kinds.LexicalDeclaration (two (choice 1) (listed ds)) ≡ u) (λ u. Unit {0}) (limited kinds.LexicalDeclaration (two (choice 1) (listed ds))) (unlimited kinds.LexicalDeclaration (two (choice 1) (listed ds))) tt
-    (weaker (C × FlatIn (two (choice 1) (listed ds))) (C × FlatIn ds) (λ u. C × Flat u) (λ u. branch kinds.LexicalDeclaration (two (choice 1) (listed ds)) ≡ u) (limited kinds.LexicalDeclaration (two (choice 1) (listed ds))) (unlimited kinds.LexicalDeclaration (two (choice 1) (listed ds)))
-    (λ h. let a : depth_in (two (choice 1) (listed ds)) ≤ 512 = h.1 in (h.0, omega (arith, a))) (node_follows C kinds.LexicalDeclaration (two (choice 1) (listed ds))))
+    known (C × FlatIn ds) (λ u. C × Flat u) (λ u. branch kinds.LexicalDeclaration (two (choice lexical_const) (listed ds)) ≡ u) (λ u. Unit {0}) (limited kinds.LexicalDeclaration (two (choice lexical_const) (listed ds))) (unlimited kinds.LexicalDeclaration (two (choice lexical_const) (listed ds))) tt
+    (weaker (C × FlatIn (two (choice lexical_const) (listed ds))) (C × FlatIn ds) (λ u. C × Flat u) (λ u. branch kinds.LexicalDeclaration (two (choice lexical_const) (listed ds)) ≡ u) (limited kinds.LexicalDeclaration (two (choice lexical_const) (listed ds))) (unlimited kinds.LexicalDeclaration (two (choice lexical_const) (listed ds)))
+    (λ h. let a : depth_in (two (choice lexical_const) (listed ds)) ≤ 512 = h.1 in (h.0, omega (arith, a))) (node_follows C kinds.LexicalDeclaration (two (choice lexical_const) (listed ds))))
 
 left_follows : (C : Type 0) (how : Declared) (b : Datum) (f : Form) → Follows (C × (depth_at b ≤ 512) × FlatForm f) (λ u. C × Flat u) (λ u. Unit {0}) (left_of limited how b f) (left_of unlimited how b f)
 left_follows C how b forms.Plain =

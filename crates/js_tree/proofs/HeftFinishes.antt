@@ -1,5 +1,6 @@
 -- How many values a row's own part has beyond those that were gathered.
 use Rattle.std.proofs.Common.{◌≡◌, ◌≤◌, ◌+◌, ◌==◌, ℕ, cond, Bool, true, false, length, List, [], ◌∷◌, reverse, Option, Some, None, Result, Ok, refl, sym, ap, arith}
+use Rattle.bast_schema.specs.Choices.{lexical_let, lexical_const}
 use Rattle.bast_schema.specs.declared.kind.Kind.TheVariants as kinds
 use Rattle.bast_schema.specs.Counts.{join, size, size_at, size_in}
 use Rattle.bast_schema.specs.Kinds.{same_kind}
@@ -150,8 +151,8 @@ fills_left w ps n le =
 
 declaration_size : (m : Maker) → Sized m → (how : Declared) (ds : Data) → Holds (TreeOf (3 + size_in ds)) (declaration m how ds)
 declaration_size m sized declared.Var ds = node_made m sized kinds.VarDeclaration (one (listed ds)) (3 + size_in ds) (omega arith)
-declaration_size m sized declared.Let ds = node_made m sized kinds.LexicalDeclaration (two (choice 0) (listed ds)) (3 + size_in ds) (omega arith)
-declaration_size m sized declared.Const ds = node_made m sized kinds.LexicalDeclaration (two (choice 1) (listed ds)) (3 + size_in ds) (omega arith)
+declaration_size m sized declared.Let ds = node_made m sized kinds.LexicalDeclaration (two (choice lexical_let) (listed ds)) (3 + size_in ds) (omega arith)
+declaration_size m sized declared.Const ds = node_made m sized kinds.LexicalDeclaration (two (choice lexical_const) (listed ds)) (3 + size_in ds) (omega arith)
 
 left_size : (m : Maker) → Sized m → (how : Declared) (b : Datum) (f : Form) (n : ℕ) → 4 + size_at b + heft_form f ≤ n → Holds (TreeOf n) (left_of m how b f)
 left_size m sized how b forms.Plain n le = node_made m sized kinds.ForInOfBinding (two (choice (for_kind how)) b) n (omega arith)

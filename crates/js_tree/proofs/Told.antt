@@ -9,6 +9,7 @@ use Rattle.js_tokens.specs.declared.kinds.Mark.{Mark}
 use Rattle.js_tokens.specs.declared.kinds.Mark.TheVariants as marks
 use Rattle.js_tokens.specs.declared.kinds.Piece.{Piece}
 use Rattle.js_tokens.specs.declared.kinds.Piece.TheVariants as pieces
+use Rattle.js_tokens.specs.Spelling.{mark_text, word_text}
 use Rattle.js_grammar.specs.declared.class.Class.{Class}
 use Rattle.js_grammar.specs.declared.class.Class.TheVariants as classes
 use Rattle.js_grammar.specs.TokenClasses.{class_in, class_of_kind, class_of_identifier, class_of_word, class_of_mark, class_of_piece, bytes_between}
@@ -17,11 +18,11 @@ use Rattle.bast_schema.specs.declared.kind.EnumId.{EnumId}
 use Rattle.bast_schema.specs.declared.kind.EnumId.TheVariants as sets
 use Rattle.bast_schema.specs.declared.kind.Kind.TheVariants as kinds
 use Rattle.bast_schema.specs.declared.kind.Union.TheVariants as unions
-use Rattle.bast_schema.specs.Choices.{choice_texts}
+use Rattle.bast_schema.specs.Choices.{choice_texts, choice_of_text}
 use Rattle.bast_schema.specs.Tree.{Tree}
 use Rattle.js_tree.specs.Image.{tree_of}
 use Rattle.js_tree.specs.Nodes.{limited}
-use Rattle.js_tree.specs.Operators.{operator, mark_choice, word_choice}
+use Rattle.js_tree.specs.Operators.{operator}
 use Rattle.js_tree.specs.declared.fault.Fault.{Fault}
 use Rattle.js_tree.specs.declared.fault.Fault.TheVariants as faults
 use Rattle.js_tree.specs.declared.leaf.Leaf.{Leaf}
@@ -34,13 +35,13 @@ use Rattle.js_tree.proofs.Marks.{identifier_class, tokens_marked}
 use Rattle.js_tree.proofs.Trees.{accepted_tree, limited_makes}
 
 -- texts
-mark_text : {A : Type 0} (m : Mark) (h : Bool) → tells_text (class_of_mark m h) ≡ true → A
-mark_text marks.OpenParen true e = cc
-mark_text marks.OpenParen false e = cc
-mark_text _ h e = cc
+mark_told : {A : Type 0} (m : Mark) (h : Bool) → tells_text (class_of_mark m h) ≡ true → A
+mark_told marks.OpenParen true e = cc
+mark_told marks.OpenParen false e = cc
+mark_told _ h e = cc
 
 texts_told : (text : List ℕ) (t : Token) (k : TokenKind) → tells_text (class_of_kind text t k) ≡ true → has_text k ≡ true
-texts_told text t (tokens.Punctuator m) e = mark_text m t.head e
+texts_told text t (tokens.Punctuator m) e = mark_told m t.head e
 texts_told text t tokens.End e = cc
 texts_told text t _ e = refl
 
@@ -76,7 +77,8 @@ abbrev leads : Bool → Bool → Bool
 leads true b = b
 leads false b = true
 
-mark_set : (e : EnumId) (m : Mark) (h : Bool) → leads (is_operator e (class_of_mark m h)) (in_set e (mark_choice e m)) ≡ true
+mark_set : (e : EnumId) (m : Mark) (h : Bool) → leads (is_operator e (class_of_mark m h)) (in_set e (choice_of_text e (mark_text m))) ≡ true
+unfolding mark_text
 mark_set sets.UnaryOperator marks.OpenParen true = refl
 mark_set sets.UnaryOperator marks.OpenParen false = refl
 mark_set sets.UpdateOperator marks.OpenParen true = refl
@@ -90,7 +92,8 @@ mark_set sets.LexicalKind m h = refl
 mark_set sets.ForKind m h = refl
 mark_set _ _ h = refl
 
-word_set : (e : EnumId) (w : Word) → leads (is_operator e (class_of_word w)) (in_set e (word_choice e w)) ≡ true
+word_set : (e : EnumId) (w : Word) → leads (is_operator e (class_of_word w)) (in_set e (choice_of_text e (word_text w))) ≡ true
+unfolding word_text
 word_set sets.DeclaredKind w = refl
 word_set sets.LexicalKind w = refl
 word_set sets.ForKind w = refl
@@ -133,8 +136,8 @@ found e false o l is = cc
 
 operators_told : (text : List ℕ) (t : Token) (k : TokenKind) (e : EnumId) → is_operator e (class_of_kind text t k) ≡ true → (n : ℕ) × (operator e k ≡ Some n) × (nat_lt n (length (choice_texts e)) ≡ true)
 operators_told text t tokens.Identifier e is = name_set e (bytes_between text t.from t.to) is
-operators_told text t (tokens.Reserved w) e is = found e (is_operator e (class_of_word w)) (word_choice e w) (word_set e w) is
-operators_told text t (tokens.Punctuator m) e is = found e (is_operator e (class_of_mark m t.head)) (mark_choice e m) (mark_set e m t.head) is
+operators_told text t (tokens.Reserved w) e is = found e (is_operator e (class_of_word w)) (choice_of_text e (word_text w)) (word_set e w) is
+operators_told text t (tokens.Punctuator m) e is = found e (is_operator e (class_of_mark m t.head)) (choice_of_text e (mark_text m)) (mark_set e m t.head) is
 operators_told text t (tokens.Number n) e is = other_set e classes.Number is
 operators_told text t tokens.Text e is = text_set e is
 operators_told text t (tokens.Template p) e is = piece_set e p is

@@ -4,6 +4,7 @@ use Rattle.bast_base.specs.declared.errors.NameId.{NameId}
 use Rattle.bast_schema.specs.declared.kind.Kind.{Kind}
 use Rattle.bast_schema.specs.declared.kind.Kind.TheVariants as kinds
 use Rattle.bast_schema.specs.Kinds.{same_kind}
+use Rattle.bast_schema.specs.Choices.{lexical_let, lexical_const, for_var, for_let, for_const}
 use Rattle.bast_schema.specs.Counts.{join}
 use Rattle.bast_schema.specs.Tree.{Tree, Datum, child, listed, choice, Data, none, more, count, is_none}
 use Rattle.js_tree.specs.Nodes.{Maker, one, two, kind_of, folded}
@@ -68,16 +69,17 @@ filled (endings.Instead t) d ps = broken
 unfoldable pub fills : Work → List Part → Finished
 fills w ps = one_value w.values >>= λ d. one_ending w.endings >>= λ e. filled e d ps
 
+-- the choice that says how the head of a `for` declares
 abbrev pub for_kind : Declared → ℕ
-for_kind declared.Var = 0
-for_kind declared.Let = 1
-for_kind declared.Const = 2
+for_kind declared.Var = for_var
+for_kind declared.Let = for_let
+for_kind declared.Const = for_const
 
 -- a declaration of these declarators (13.3)
 abbrev pub declaration : Maker → Declared → Data → Result Tree Fault
 declaration m declared.Var ds = m kinds.VarDeclaration (one (listed ds))
-declaration m declared.Let ds = m kinds.LexicalDeclaration (two (choice 0) (listed ds))
-declaration m declared.Const ds = m kinds.LexicalDeclaration (two (choice 1) (listed ds))
+declaration m declared.Let ds = m kinds.LexicalDeclaration (two (choice lexical_let) (listed ds))
+declaration m declared.Const ds = m kinds.LexicalDeclaration (two (choice lexical_const) (listed ds))
 
 -- what the head of a `for` declares: one name (13.7.5), or the names of a declaration (13.7.4)
 abbrev pub left_of : Maker → Declared → Datum → Form → Result Tree Fault

@@ -2,6 +2,7 @@
 use Rattle.std.specs.Prelude.{true, false, List, [], ◌∷◌}
 use Rattle.bast_schema.specs.declared.kind.EnumId.TheVariants as sets
 use Rattle.bast_schema.specs.declared.kind.Kind.TheVariants as kinds
+use Rattle.bast_schema.specs.Choices.{lexical_let, lexical_const}
 use Rattle.js_grammar.specs.declared.symbols.RowId.{RowId}
 use Rattle.js_grammar.specs.declared.symbols.RowId.TheVariants as rows
 use Rattle.js_tree.specs.declared.recipe.Declared.TheVariants as declared
@@ -32,8 +33,8 @@ recipe rows.ItemFunction = one_symbol
 recipe rows.ItemLexical = one_symbol
 recipe rows.ItemStat = one_symbol
 -- Declarations of variables (13.3)
-recipe rows.LexicalLet = (steps.Skip ∷ (steps.Choice 0) ∷ steps.Wrap ∷ steps.Skip ∷ (steps.Close kinds.LexicalDeclaration) ∷ [], finishes.Values)
-recipe rows.LexicalConst = (steps.Skip ∷ (steps.Choice 1) ∷ steps.Wrap ∷ steps.Skip ∷ (steps.Close kinds.LexicalDeclaration) ∷ [], finishes.Values)
+recipe rows.LexicalLet = (steps.Skip ∷ (steps.Choice lexical_let) ∷ steps.Wrap ∷ steps.Skip ∷ (steps.Close kinds.LexicalDeclaration) ∷ [], finishes.Values)
+recipe rows.LexicalConst = (steps.Skip ∷ (steps.Choice lexical_const) ∷ steps.Wrap ∷ steps.Skip ∷ (steps.Close kinds.LexicalDeclaration) ∷ [], finishes.Values)
 recipe (rows.Decls m) = (steps.Put ∷ steps.Put ∷ [], finishes.Values)
 recipe (rows.DeclTail m) = (steps.Skip ∷ steps.Put ∷ steps.Put ∷ [], finishes.Values)
 recipe (rows.DeclTailEmpty m) = ([], finishes.Values)

@@ -16,7 +16,9 @@ use crate::run::Run;
 use crate::switches;
 use crate::work::Work;
 use bast_base::NameId;
-use bast_schema::{Kind, Node, Value, Values};
+use bast_schema::{
+    FOR_CONST, FOR_LET, FOR_VAR, Kind, LEXICAL_CONST, LEXICAL_LET, Node, Value, Values,
+};
 use std::alloc::Global;
 
 /// Puts a row's own part on top of the stack, of what its steps gathered.
@@ -208,13 +210,14 @@ fn left_of(alloc: Global, declared: Declared, binding: Value, form: Form) -> Res
     }
 }
 
+// The choice that says how the head of a `for` declares.
 fn for_kind(declared: Declared) -> u8
     ensures { result ≡ for_kind declared }
 {
     match declared {
-        Declared::Var => 0,
-        Declared::Let => 1,
-        Declared::Const => 2,
+        Declared::Var => FOR_VAR,
+        Declared::Let => FOR_LET,
+        Declared::Const => FOR_CONST,
     }
 }
 
@@ -229,11 +232,11 @@ fn declaration(alloc: Global, declared: Declared, declarators: Run) -> Result<No
             make(Kind::VarDeclaration, fields)
         }
         Declared::Let => {
-            let fields = two(alloc, Value::Choice(0), list)?;
+            let fields = two(alloc, Value::Choice(LEXICAL_LET), list)?;
             make(Kind::LexicalDeclaration, fields)
         }
         Declared::Const => {
-            let fields = two(alloc, Value::Choice(1), list)?;
+            let fields = two(alloc, Value::Choice(LEXICAL_CONST), list)?;
             make(Kind::LexicalDeclaration, fields)
         }
     }

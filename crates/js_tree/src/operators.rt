@@ -1,12 +1,17 @@
-//! The operators that tokens are.
+//! The operators and the words of declarations that tokens are, as choices of the schema's sets.
 
 ghost use Rattle.std.specs.Prelude.{◌≡◌};
-ghost use Rattle.js_tree.specs.Operators.{binary_mark, binary_word, compound_mark, mark_choice, operator, unary_mark, unary_word, update_mark, word_choice};
+ghost use Rattle.bast_schema.specs.declared.kind.EnumId.TheVariants as sets;
+ghost use Rattle.bast_schema.specs.Choices.{choice_of_text};
+ghost use Rattle.js_tokens.specs.Spelling.{mark_text, word_text};
+ghost use Rattle.js_tree.specs.Operators.{operator};
 
-use bast_schema::EnumId;
+use bast_schema::{
+    DECLARED_VAR, EnumId, FOR_CONST, FOR_LET, FOR_VAR, LEXICAL_CONST, LEXICAL_LET, UNARY_DELETE,
+};
 use js_tokens::{Mark, TokenKind, Word};
 
-/// The choice of a set that a token is.
+/// The choice of a set whose text is the spelling of a token.
 pub(crate) fn operator(set: EnumId, kind: TokenKind) -> Option<u8>
     ensures { result ≡ operator set kind }
 {
@@ -18,7 +23,7 @@ pub(crate) fn operator(set: EnumId, kind: TokenKind) -> Option<u8>
 }
 
 fn mark_choice(set: EnumId, mark: Mark) -> Option<u8>
-    ensures { result ≡ mark_choice set mark }
+    ensures { result ≡ choice_of_text set (mark_text mark) }
 {
     match set {
         EnumId::UnaryOperator => unary_mark(mark),
@@ -30,17 +35,21 @@ fn mark_choice(set: EnumId, mark: Mark) -> Option<u8>
 }
 
 fn word_choice(set: EnumId, word: Word) -> Option<u8>
-    ensures { result ≡ word_choice set word }
+    ensures { result ≡ choice_of_text set (word_text word) }
 {
     match set {
         EnumId::UnaryOperator => unary_word(word),
         EnumId::BinaryOperator => binary_word(word),
-        _ => None,
+        EnumId::DeclaredKind => declared_word(word),
+        EnumId::LexicalKind => lexical_word(word),
+        EnumId::ForKind => for_word(word),
+        EnumId::UpdateOperator | EnumId::CompoundOperator => None,
     }
 }
 
+#[tactic(auto, unfolding(js_tokens::specs::Spelling::mark_text))]
 fn unary_mark(mark: Mark) -> Option<u8>
-    ensures { result ≡ unary_mark mark }
+    ensures { result ≡ choice_of_text sets.UnaryOperator (mark_text mark) }
 {
     match mark {
         Mark::Plus => Some(0),
@@ -51,19 +60,21 @@ fn unary_mark(mark: Mark) -> Option<u8>
     }
 }
 
+#[tactic(auto, unfolding(js_tokens::specs::Spelling::word_text))]
 fn unary_word(word: Word) -> Option<u8>
-    ensures { result ≡ unary_word word }
+    ensures { result ≡ choice_of_text sets.UnaryOperator (word_text word) }
 {
     match word {
         Word::Typeof => Some(4),
         Word::Void => Some(5),
-        Word::Delete => Some(6),
+        Word::Delete => Some(UNARY_DELETE),
         _ => None,
     }
 }
 
+#[tactic(auto, unfolding(js_tokens::specs::Spelling::mark_text))]
 fn update_mark(mark: Mark) -> Option<u8>
-    ensures { result ≡ update_mark mark }
+    ensures { result ≡ choice_of_text sets.UpdateOperator (mark_text mark) }
 {
     match mark {
         Mark::Increment => Some(0),
@@ -72,8 +83,9 @@ fn update_mark(mark: Mark) -> Option<u8>
     }
 }
 
+#[tactic(auto, unfolding(js_tokens::specs::Spelling::mark_text))]
 fn binary_mark(mark: Mark) -> Option<u8>
-    ensures { result ≡ binary_mark mark }
+    ensures { result ≡ choice_of_text sets.BinaryOperator (mark_text mark) }
 {
     match mark {
         Mark::OrOr => Some(0),
@@ -101,8 +113,9 @@ fn binary_mark(mark: Mark) -> Option<u8>
     }
 }
 
+#[tactic(auto, unfolding(js_tokens::specs::Spelling::word_text))]
 fn binary_word(word: Word) -> Option<u8>
-    ensures { result ≡ binary_word word }
+    ensures { result ≡ choice_of_text sets.BinaryOperator (word_text word) }
 {
     match word {
         Word::Instanceof => Some(13),
@@ -111,8 +124,9 @@ fn binary_word(word: Word) -> Option<u8>
     }
 }
 
+#[tactic(auto, unfolding(js_tokens::specs::Spelling::mark_text))]
 fn compound_mark(mark: Mark) -> Option<u8>
-    ensures { result ≡ compound_mark mark }
+    ensures { result ≡ choice_of_text sets.CompoundOperator (mark_text mark) }
 {
     match mark {
         Mark::PlusAssign => Some(0),
@@ -126,6 +140,39 @@ fn compound_mark(mark: Mark) -> Option<u8>
         Mark::BitAndAssign => Some(8),
         Mark::BitXorAssign => Some(9),
         Mark::BitOrAssign => Some(10),
+        _ => None,
+    }
+}
+
+#[tactic(auto, unfolding(js_tokens::specs::Spelling::word_text))]
+fn declared_word(word: Word) -> Option<u8>
+    ensures { result ≡ choice_of_text sets.DeclaredKind (word_text word) }
+{
+    match word {
+        Word::Var => Some(DECLARED_VAR),
+        _ => None,
+    }
+}
+
+#[tactic(auto, unfolding(js_tokens::specs::Spelling::word_text))]
+fn lexical_word(word: Word) -> Option<u8>
+    ensures { result ≡ choice_of_text sets.LexicalKind (word_text word) }
+{
+    match word {
+        Word::Let => Some(LEXICAL_LET),
+        Word::Const => Some(LEXICAL_CONST),
+        _ => None,
+    }
+}
+
+#[tactic(auto, unfolding(js_tokens::specs::Spelling::word_text))]
+fn for_word(word: Word) -> Option<u8>
+    ensures { result ≡ choice_of_text sets.ForKind (word_text word) }
+{
+    match word {
+        Word::Var => Some(FOR_VAR),
+        Word::Let => Some(FOR_LET),
+        Word::Const => Some(FOR_CONST),
         _ => None,
     }
 }

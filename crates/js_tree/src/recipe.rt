@@ -44,7 +44,7 @@ pub enum Step {
     NoItems,
     /// A truth value.
     Flag(bool),
-    /// The number of a choice.
+    /// A choice.
     Choice(u8),
     /// A scope of the kind that tells no names.
     Scope(Kind),

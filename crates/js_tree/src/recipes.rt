@@ -9,7 +9,7 @@ use crate::recipe::Step::{
     Whole, Wrap,
 };
 use crate::recipe::{Declared, Finish, Step};
-use bast_schema::{EnumId, Kind};
+use bast_schema::{EnumId, Kind, LEXICAL_CONST, LEXICAL_LET};
 use js_grammar::RowId;
 
 /// The steps that gather the parts of a row's symbols.
@@ -37,8 +37,20 @@ pub(crate) fn steps_of(row: RowId) -> &'static [Step]
         | RowId::ShortMethod
         | RowId::GetRestMethod
         | RowId::SetRestMethod => &[],
-        RowId::LexicalLet => &[Skip, Choice(0), Wrap, Skip, Close(Kind::LexicalDeclaration)],
-        RowId::LexicalConst => &[Skip, Choice(1), Wrap, Skip, Close(Kind::LexicalDeclaration)],
+        RowId::LexicalLet => &[
+            Skip,
+            Choice(LEXICAL_LET),
+            Wrap,
+            Skip,
+            Close(Kind::LexicalDeclaration),
+        ],
+        RowId::LexicalConst => &[
+            Skip,
+            Choice(LEXICAL_CONST),
+            Wrap,
+            Skip,
+            Close(Kind::LexicalDeclaration),
+        ],
         RowId::Decls(_) | RowId::Args | RowId::ElemsArg | RowId::Props => &[Put, Put],
         RowId::DeclTail(_) | RowId::Comma(_) | RowId::ArgMore => &[Skip, Put, Put],
         RowId::DeclTailEmpty(_)

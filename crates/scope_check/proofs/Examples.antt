@@ -2,6 +2,7 @@
 use Rattle.std.proofs.Common.{ℕ, Bool, true, false, Some, None, [], ◌∷◌, ◌≡◌, refl}
 use Rattle.bast_schema.specs.declared.kind.Kind.{Kind}
 use Rattle.bast_schema.specs.declared.kind.Kind.TheVariants.{AssertedVarScope, AssertedBlockScope, AssertedParameterScope, AssertedBoundNamesScope, AssertedDeclaredName, AssertedPositionalParameterName, AssertedRestParameterName, AssertedBoundName, BindingIdentifier, BindingWithInitializer, FormalParameters, VariableDeclarator, VarDeclaration, LexicalDeclaration, ThisExpression}
+use Rattle.bast_schema.specs.Choices.{declared_var, declared_lexical, declared_const, lexical_let, lexical_const}
 use Rattle.bast_schema.specs.Tree.{Tree, branch, Datum, child, absent, listed, flag, index, name, choice, Data, none, more}
 use Rattle.scope_check.specs.declared.finding.Finding.TheVariants.{Fine, Wrong}
 use Rattle.scope_check.specs.Entries.{scope_says}
@@ -22,7 +23,7 @@ declarator n = child (branch VariableDeclarator (two (binding n) absent))
 abbrev var : ℕ → Datum
 var n = child (branch VarDeclaration (one (listed (one (declarator n)))))
 
--- with choice 0 `let n;`, with choice 1 `const n;`
+-- `let n;` or `const n;`
 abbrev lexical : ℕ → ℕ → Datum
 lexical c n = child (branch LexicalDeclaration (two (choice c) (listed (one (declarator n)))))
 
@@ -34,46 +35,46 @@ scope k es = branch k (two (listed es) (flag false))
 
 -- `var 7; let 8; var 7;`
 abbrev body : Data
-body = one (listed (more (var 7) (two (lexical 0 8) (var 7))))
+body = one (listed (more (var 7) (two (lexical lexical_let 8) (var 7))))
 
-says_all : scope_says [] (scope AssertedVarScope (two (declared 7 0 false) (declared 8 1 false))) body ≡ Fine
+says_all : scope_says [] (scope AssertedVarScope (two (declared 7 declared_var false) (declared 8 declared_lexical false))) body ≡ Fine
 says_all = refl
 
-in_another_order : scope_says [] (scope AssertedVarScope (two (declared 8 1 false) (declared 7 0 false))) body ≡ Fine
+in_another_order : scope_says [] (scope AssertedVarScope (two (declared 8 declared_lexical false) (declared 7 declared_var false))) body ≡ Fine
 in_another_order = refl
 
-captured_or_not : scope_says [] (scope AssertedVarScope (two (declared 7 0 true) (declared 8 1 false))) body ≡ Fine
+captured_or_not : scope_says [] (scope AssertedVarScope (two (declared 7 declared_var true) (declared 8 declared_lexical false))) body ≡ Fine
 captured_or_not = refl
 
-leaves_one_out : scope_says [] (scope AssertedVarScope (one (declared 7 0 false))) body ≡ Wrong (Some 8)
+leaves_one_out : scope_says [] (scope AssertedVarScope (one (declared 7 declared_var false))) body ≡ Wrong (Some 8)
 leaves_one_out = refl
 
 leaves_all_out : scope_says [] (scope AssertedVarScope none) body ≡ Wrong (Some 7)
 leaves_all_out = refl
 
-repeats_one : scope_says [] (scope AssertedVarScope (more (declared 8 1 false) (two (declared 7 0 false) (declared 8 1 true)))) body ≡ Wrong (Some 8)
+repeats_one : scope_says [] (scope AssertedVarScope (more (declared 8 declared_lexical false) (two (declared 7 declared_var false) (declared 8 declared_lexical true)))) body ≡ Wrong (Some 8)
 repeats_one = refl
 
-repeats_and_leaves_out : scope_says [] (scope AssertedVarScope (two (declared 8 1 false) (declared 8 1 false))) body ≡ Wrong (Some 8)
+repeats_and_leaves_out : scope_says [] (scope AssertedVarScope (two (declared 8 declared_lexical false) (declared 8 declared_lexical false))) body ≡ Wrong (Some 8)
 repeats_and_leaves_out = refl
 
-of_another_kind : scope_says [] (scope AssertedVarScope (two (declared 7 0 false) (declared 8 2 false))) body ≡ Wrong (Some 8)
+of_another_kind : scope_says [] (scope AssertedVarScope (two (declared 7 declared_var false) (declared 8 declared_const false))) body ≡ Wrong (Some 8)
 of_another_kind = refl
 
-strange_before_missing : scope_says [] (scope AssertedVarScope (two (declared 8 1 false) (declared 9 0 false))) body ≡ Wrong (Some 9)
+strange_before_missing : scope_says [] (scope AssertedVarScope (two (declared 8 declared_lexical false) (declared 9 declared_var false))) body ≡ Wrong (Some 9)
 strange_before_missing = refl
 
-lexical_of_a_block : scope_says [] (scope AssertedBlockScope (one (declared 8 1 false))) body ≡ Fine
+lexical_of_a_block : scope_says [] (scope AssertedBlockScope (one (declared 8 declared_lexical false))) body ≡ Fine
 lexical_of_a_block = refl
 
-var_of_a_block : scope_says [] (scope AssertedBlockScope (two (declared 8 1 false) (declared 7 0 false))) body ≡ Wrong (Some 7)
+var_of_a_block : scope_says [] (scope AssertedBlockScope (two (declared 8 declared_lexical false) (declared 7 declared_var false))) body ≡ Wrong (Some 7)
 var_of_a_block = refl
 
-constant_of_a_block : scope_says [] (scope AssertedBlockScope (one (declared 8 2 false))) (one (listed (one (lexical 1 8)))) ≡ Fine
+constant_of_a_block : scope_says [] (scope AssertedBlockScope (one (declared 8 declared_const false))) (one (listed (one (lexical lexical_const 8)))) ≡ Fine
 constant_of_a_block = refl
 
 -- a name of two kinds is two declared names
-two_kinds : scope_says [] (scope AssertedVarScope (one (declared 7 0 false))) (one (listed (two (var 7) (lexical 0 7)))) ≡ Wrong (Some 7)
+two_kinds : scope_says [] (scope AssertedVarScope (one (declared 7 declared_var false))) (one (listed (two (var 7) (lexical lexical_let 7)))) ≡ Wrong (Some 7)
 two_kinds = refl
 
 abbrev bound_entry : ℕ → Datum

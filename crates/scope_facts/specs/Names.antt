@@ -1,6 +1,7 @@
 -- The names that a piece of a program declares, in the order of the declaring nodes.
 use Rattle.std.specs.Prelude.{ℕ, Bool, false, ◌&&◌, nat_eq, if◌then◌else◌, Option, None, List, [], ◌∷◌, ◌++◌, map, option_to_list}
 use Rattle.std.specs.List.{list_any}
+use Rattle.bast_schema.specs.Choices.{declared_var, declared_lexical, declared_const, lexical_let, for_var, for_let}
 use Rattle.bast_schema.specs.Tree.{Tree, branch, Datum, child, listed, choice, Data, none, more}
 use Rattle.scope_facts.specs.declared.roles.Form.{Form}
 use Rattle.scope_facts.specs.declared.roles.Form.TheVariants.{Binding, VarStatement, LexicalStatement, FunctionStatement, Head, Case, Inside}
@@ -10,11 +11,11 @@ use Rattle.scope_facts.specs.declared.names.NameKind.TheVariants.{Var, Lexical, 
 use Rattle.scope_facts.specs.Roles.{form}
 use Rattle.scope_facts.specs.Uses.{first_name}
 
--- the number of a kind of name among the texts "var", "non-const lexical" and "const lexical"
+-- the choice by which a scope says the kind of a name
 abbrev pub kind_choice : NameKind → ℕ
-kind_choice Var = 0
-kind_choice Lexical = 1
-kind_choice Constant = 2
+kind_choice Var = declared_var
+kind_choice Lexical = declared_lexical
+kind_choice Constant = declared_const
 
 -- names with the kind that all of them have
 abbrev pub with_kind : NameKind → List ℕ → List Declared
@@ -49,18 +50,19 @@ declarators none = []
 declarators (more (listed ds) es) = bound_below ds
 declarators (more d ds) = declarators ds
 
--- the kind of names under let (choice 0) or const
+-- the kind of names under let or const
 abbrev pub lexical_kind : Data → NameKind
-lexical_kind (more (choice n) ds) = if nat_eq n 0 then Lexical else Constant
+lexical_kind (more (choice n) ds) = if nat_eq n lexical_let then Lexical else Constant
 lexical_kind _ = Constant
 
--- the word of a for head: var (choice 0), let (choice 1) or const
+-- whether the word of a for head is var
 abbrev pub is_var_head : Data → Bool
-is_var_head (more (choice n) ds) = nat_eq n 0
+is_var_head (more (choice n) ds) = nat_eq n for_var
 is_var_head _ = false
 
+-- the kind of the name of a for head with let or const
 abbrev pub head_kind : Data → NameKind
-head_kind (more (choice n) ds) = if nat_eq n 1 then Lexical else Constant
+head_kind (more (choice n) ds) = if nat_eq n for_let then Lexical else Constant
 head_kind _ = Constant
 
 -- the var names below a node, outside functions (VarDeclaredNames, sections 13.1.5 to 13.15.12)

@@ -5,7 +5,9 @@ ghost use Rattle.scope_facts.specs.Names.{kind_choice, with_kind, bound_at, boun
 
 use crate::roles::{Form, form_of};
 use bast_base::Memory;
-use bast_schema::{Node, Value};
+use bast_schema::{
+    DECLARED_CONST, DECLARED_LEXICAL, DECLARED_VAR, FOR_LET, FOR_VAR, LEXICAL_LET, Node, Value,
+};
 use std::alloc::Global;
 
 /// How a scope declares a name.
@@ -20,14 +22,14 @@ pub enum NameKind {
 }
 
 impl NameKind {
-    /// The number of the kind among the choices of `EnumId::DeclaredKind`.
+    /// The choice of `EnumId::DeclaredKind` that the kind is.
     pub fn choice(self) -> u8
         ensures { result ≡ kind_choice self }
     {
         match self {
-            NameKind::Var => 0,
-            NameKind::Lexical => 1,
-            NameKind::Constant => 2,
+            NameKind::Var => DECLARED_VAR,
+            NameKind::Lexical => DECLARED_LEXICAL,
+            NameKind::Constant => DECLARED_CONST,
         }
     }
 }
@@ -121,7 +123,7 @@ fn lexical_kind_of(values: &[Value]) -> NameKind
     match values {
         [] => NameKind::Constant,
         [first, ..] => match first {
-            Value::Choice(0) => NameKind::Lexical,
+            Value::Choice(LEXICAL_LET) => NameKind::Lexical,
             _ => NameKind::Constant,
         },
     }
@@ -134,7 +136,7 @@ fn has_var(values: &[Value]) -> bool
     match values {
         [] => false,
         [first, ..] => match first {
-            Value::Choice(choice) => *choice == 0,
+            Value::Choice(choice) => *choice == FOR_VAR,
             _ => false,
         },
     }
@@ -147,7 +149,7 @@ fn head_kind_of(values: &[Value]) -> NameKind
     match values {
         [] => NameKind::Constant,
         [first, ..] => match first {
-            Value::Choice(1) => NameKind::Lexical,
+            Value::Choice(FOR_LET) => NameKind::Lexical,
             _ => NameKind::Constant,
         },
     }

@@ -1,16 +1,13 @@
 use super::*;
 use crate::entries::judge_scope;
 use bast_base::NameId;
-use bast_schema::{Kind, Node, Value, Values, values_left};
+use bast_schema::{
+    DECLARED_CONST, DECLARED_LEXICAL, DECLARED_VAR, Kind, LEXICAL_LET, Node, Value, Values,
+    values_left,
+};
 use scope_facts::put_bound;
 use std::alloc::Global;
 use std::test::Fail;
-
-const VAR: u8 = 0;
-
-const LET: u8 = 1;
-
-const CONST: u8 = 2;
 
 fn node(kind: Kind, fields: Vec<Value>) -> Result<Value, Fail> {
     Ok(Value::Node(Node::new(kind, fields)?))
@@ -40,7 +37,7 @@ fn getter(alloc: Global, entries: Vec<Value>) -> Result<Node, Fail> {
         Kind::VarDeclaration,
         vec![in alloc; declarators(alloc, 7)?]?,
     )?;
-    let second = vec![in alloc; Value::Choice(0), declarators(alloc, 8)?]?;
+    let second = vec![in alloc; Value::Choice(LEXICAL_LET), declarators(alloc, 8)?]?;
     let third = node(
         Kind::VarDeclaration,
         vec![in alloc; declarators(alloc, 7)?]?,
@@ -129,11 +126,11 @@ fn is_wrong_by_none(alloc: Global, owner: &Node) -> bool {
 #[test]
 fn entries_stand_in_any_order(rt: HostRuntime) -> Result<(), Fail> {
     let alloc = rt.alloc();
-    let seven = declared(alloc, 7, VAR, false)?;
-    let eight = declared(alloc, 8, LET, false)?;
+    let seven = declared(alloc, 7, DECLARED_VAR, false)?;
+    let eight = declared(alloc, 8, DECLARED_LEXICAL, false)?;
     assert!(rt; is_fine(alloc, &getter(alloc, vec![in alloc; seven, eight]?)?));
-    let seven = declared(alloc, 7, VAR, false)?;
-    let eight = declared(alloc, 8, LET, false)?;
+    let seven = declared(alloc, 7, DECLARED_VAR, false)?;
+    let eight = declared(alloc, 8, DECLARED_LEXICAL, false)?;
     assert!(rt; is_fine(alloc, &getter(alloc, vec![in alloc; eight, seven]?)?));
     Ok(())
 }
@@ -141,8 +138,8 @@ fn entries_stand_in_any_order(rt: HostRuntime) -> Result<(), Fail> {
 #[test]
 fn a_captured_entry_is_as_good(rt: HostRuntime) -> Result<(), Fail> {
     let alloc = rt.alloc();
-    let seven = declared(alloc, 7, VAR, true)?;
-    let eight = declared(alloc, 8, LET, false)?;
+    let seven = declared(alloc, 7, DECLARED_VAR, true)?;
+    let eight = declared(alloc, 8, DECLARED_LEXICAL, false)?;
     assert!(rt; is_fine(alloc, &getter(alloc, vec![in alloc; seven, eight]?)?));
     Ok(())
 }
@@ -150,7 +147,7 @@ fn a_captured_entry_is_as_good(rt: HostRuntime) -> Result<(), Fail> {
 #[test]
 fn a_missing_entry_is_named(rt: HostRuntime) -> Result<(), Fail> {
     let alloc = rt.alloc();
-    let seven = declared(alloc, 7, VAR, false)?;
+    let seven = declared(alloc, 7, DECLARED_VAR, false)?;
     assert!(rt; is_wrong_by(alloc, &getter(alloc, vec![in alloc; seven]?)?, 8));
     assert!(rt; is_wrong_by(alloc, &getter(alloc, Vec::new(alloc))?, 7));
     Ok(())
@@ -159,8 +156,8 @@ fn a_missing_entry_is_named(rt: HostRuntime) -> Result<(), Fail> {
 #[test]
 fn a_repeated_entry_is_named_before_a_missing_one(rt: HostRuntime) -> Result<(), Fail> {
     let alloc = rt.alloc();
-    let eight = declared(alloc, 8, LET, false)?;
-    let again = declared(alloc, 8, LET, true)?;
+    let eight = declared(alloc, 8, DECLARED_LEXICAL, false)?;
+    let again = declared(alloc, 8, DECLARED_LEXICAL, true)?;
     assert!(rt; is_wrong_by(alloc, &getter(alloc, vec![in alloc; eight, again]?)?, 8));
     Ok(())
 }
@@ -168,8 +165,8 @@ fn a_repeated_entry_is_named_before_a_missing_one(rt: HostRuntime) -> Result<(),
 #[test]
 fn an_entry_of_another_kind_is_named(rt: HostRuntime) -> Result<(), Fail> {
     let alloc = rt.alloc();
-    let seven = declared(alloc, 7, VAR, false)?;
-    let eight = declared(alloc, 8, CONST, false)?;
+    let seven = declared(alloc, 7, DECLARED_VAR, false)?;
+    let eight = declared(alloc, 8, DECLARED_CONST, false)?;
     assert!(rt; is_wrong_by(alloc, &getter(alloc, vec![in alloc; seven, eight]?)?, 8));
     Ok(())
 }
@@ -177,8 +174,8 @@ fn an_entry_of_another_kind_is_named(rt: HostRuntime) -> Result<(), Fail> {
 #[test]
 fn the_first_strange_entry_is_named(rt: HostRuntime) -> Result<(), Fail> {
     let alloc = rt.alloc();
-    let ten = declared(alloc, 10, VAR, false)?;
-    let eleven = declared(alloc, 11, VAR, false)?;
+    let ten = declared(alloc, 10, DECLARED_VAR, false)?;
+    let eleven = declared(alloc, 11, DECLARED_VAR, false)?;
     assert!(rt; is_wrong_by(alloc, &getter(alloc, vec![in alloc; ten, eleven]?)?, 10));
     Ok(())
 }

@@ -1,6 +1,6 @@
 // The scopes of a tree as text: in preorder, each with its entries and flags.
 use crate::{Shape, scope_shape};
-use bast_schema::{Kind, Node, Value};
+use bast_schema::{DECLARED_LEXICAL, DECLARED_VAR, Kind, Node, Value};
 use string_table::StringTable;
 
 fn text_of<'a>(table: &'a StringTable, value: &Value) -> &'a str {
@@ -25,8 +25,8 @@ fn put_entry(out: &mut String, table: &StringTable, entry: &Node) -> Option<()> 
     match (entry.kind(), fields) {
         (Kind::AssertedDeclaredName, [name, Value::Choice(kind), Value::Bool(captured)]) => {
             let word = match *kind {
-                0 => "var ",
-                1 => "let ",
+                DECLARED_VAR => "var ",
+                DECLARED_LEXICAL => "let ",
                 _ => "const ",
             };
             put_words(out, word, text_of(table, name), *captured)
