@@ -25,7 +25,7 @@ first_token_is test [] = false
 first_token_is test (token c newline ∷ ls) = test c newline
 first_token_is test (counted ∷ ls) = first_token_is test ls
 
--- a semicolon counts as there before a token after a newline, before `}` and before the end (11.9.1), but not before a `;`
+-- a semicolon counts as there before a token that is no `;` itself, and stands after a newline, is `}` or is the end (11.9.1)
 abbrev pub counts_before : Class → Bool → Bool
 counts_before c newline = not (is_among c (classes.Semicolon ∷ [])) && (newline || is_among c (classes.CloseBrace ∷ classes.End ∷ []))
 
@@ -44,17 +44,17 @@ is_restricted rows.PostIncrement = true
 is_restricted rows.PostDecrement = true
 is_restricted _ = false
 
--- the token begins the row, where it stands
+-- the token begins the row, and no newline before it stands against that
 abbrev pub begins_here : Class → Bool → RowId → Bool
 begins_here c newline r = row_begins (begins_with c) c r && not (is_restricted r && newline)
 
--- a template after an expression is the template of a tag (12.3.7), which no row takes
+-- a template after an expression, which is its tag (12.3.7): ECMA-262 takes it there, and no row does
 abbrev pub is_tagged : Symbol → Class → Bool
 is_tagged symbols.LhsTail c = is_among c (classes.TemplateWhole ∷ classes.TemplateHead ∷ [])
 is_tagged symbols.MemberTail c = is_among c (classes.TemplateWhole ∷ classes.TemplateHead ∷ [])
 is_tagged _ c = false
 
--- where the token begins an alternative of the symbol, it begins this one
+-- no other row of the symbol takes the token: where it begins an alternative, it begins this one
 abbrev pub no_other_begins : Symbol → RowId → Class → Bool → Bool
 no_other_begins s r c newline = not (is_tagged s c) && (begins_here c newline r || not (list_any (begins_here c newline) (alternatives s)))
 
@@ -68,8 +68,8 @@ is_left_without_else c _ = false
 abbrev pub may_precede : RowId → Class → Bool → Bool
 may_precede r c newline = not (is_left_out c r) && not (is_restricted r && newline) && not (is_left_without_else c r)
 
--- a row of the symbol may stand before these leaves. A semicolon counts as there only before an offending token: one that
--- the grammar does not take there, by another row (11.9.1)
+-- a row of the symbol may stand before these leaves. A semicolon counts as there only before an offending token, which the
+-- grammar does not take there: by no other row of the symbols before it (11.9.1)
 abbrev pub may_begin : Symbol → RowId → List Leaf → Bool
 may_begin s r [] = true
 may_begin s r (token c newline ∷ ls) = may_precede r c newline
