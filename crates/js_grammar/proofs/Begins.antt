@@ -1,5 +1,5 @@
 -- Why a derivation begins with a token that its symbols begin with, and the row that is chosen is an alternative.
-use Rattle.std.proofs.Common.{Bool, true, false, List, [], ◌∷◌, ◌++◌, ◌≡◌, ◌&&◌, ◌||◌, refl, sym, ap, ◌∙◌, Option, Some, None, if◌then◌else◌, ◌⊎◌, inl, inr, lit<}
+use Rattle.std.proofs.Common.{Bool, true, false, not, List, [], ◌∷◌, ◌++◌, ◌≡◌, ◌&&◌, ◌||◌, refl, sym, ap, ◌∙◌, Option, Some, None, if◌then◌else◌, ◌⊎◌, inl, inr, lit<}
 use Rattle.std.proofs.lemmas.Option.{none-some}
 use Rattle.std.specs.List.{Contains, list_any, list_all, find}
 use Rattle.std.specs.Option.{option_or, unwrap_or}
@@ -12,8 +12,8 @@ use Rattle.js_grammar.specs.declared.symbols.Symbol.TheVariants as symbols
 use Rattle.js_grammar.specs.declared.symbols.Terminal.{Terminal}
 use Rattle.js_grammar.specs.declared.symbols.RowId.{RowId}
 use Rattle.js_grammar.specs.Classes.{takes_class}
-use Rattle.js_grammar.specs.Choice.{list_begins, row_begins, may_be_empty, chosen, is_throw, is_begun, may_stay_empty, stands_for_nothing}
-use Rattle.js_grammar.specs.Derivation.{Leaf, token, Derives, nothing, takes, semicolon, expands}
+use Rattle.js_grammar.specs.Choice.{list_begins, row_begins, may_be_empty, chosen, is_throw, is_begun, may_stay_empty, stands_for_nothing, is_left_out}
+use Rattle.js_grammar.specs.Derivation.{Leaf, token, Derives, is_restricted, nothing, takes, semicolon, expands}
 use Rattle.js_grammar.specs.Rows.{alternatives, row_symbols}
 
 pub or_left : (a b : Bool) → a ≡ true → (a || b) ≡ true
@@ -30,7 +30,7 @@ pub and_first : (a b : Bool) → (a && b) ≡ true → a ≡ true
 and_first true b e = refl
 and_first false b e = e
 
-and_second : (a b : Bool) → (a && b) ≡ true → b ≡ true
+pub and_second : (a b : Bool) → (a && b) ≡ true → b ≡ true
 and_second true b e = e
 and_second false true e = refl
 and_second false false e = e
@@ -60,18 +60,18 @@ by_row {x} {y} true g h e p q = or_left x _ (p refl)
 by_row {x} {y} false g h e p q = or_right x _ (and_both y h (q (and_first g h e)) (and_second g h e))
 
 -- in a derivation that begins with a token, the symbols begin with it, by any test that is closed under the rows
-pub first_of : (c : Class) (b : Symbol → Bool)
+pub first_of : (c : Class) (newline : Bool) (b : Symbol → Bool)
     → ((t : Terminal) → takes_class t c ≡ true → b (symbols.Take t) ≡ true)
     → (classes.Semicolon ≡ c → b symbols.Semi ≡ true)
     → ((s : Symbol) (r : RowId) → Contains (alternatives s) r → row_begins b c r ≡ true → b s ≡ true)
     → ((s : Symbol) (r : RowId) → Contains (alternatives s) r → list_all may_be_empty (row_symbols r) ≡ true → may_be_empty s ≡ true)
-    → (ss : List Symbol) (ls : List Leaf) (rs : List RowId) → Derives ss (token c ∷ ls) rs → list_begins b ss ≡ true
-first_of c b t_ok s_ok r_ok e_ok _ _ _ (takes t _ ss ls rs e d) = or_left (b (symbols.Take t)) _ (t_ok t e)
-first_of c b t_ok s_ok r_ok e_ok _ _ _ (semicolon ss ls rs d) = or_left (b symbols.Semi) _ (s_ok refl)
-first_of c b t_ok s_ok r_ok e_ok _ ls _ (expands s r ss _ rs h m d) =
-    let ih = sym (begins_append b (row_symbols r) ss) ∙ first_of c b t_ok s_ok r_ok e_ok (row_symbols r ++ ss) ls rs d in
+    → (ss : List Symbol) (ls : List Leaf) (rs : List RowId) → Derives ss (token c newline ∷ ls) rs → list_begins b ss ≡ true
+first_of c newline b t_ok s_ok r_ok e_ok _ _ _ (takes t _ _ ss ls rs e d) = or_left (b (symbols.Take t)) _ (t_ok t e)
+first_of c newline b t_ok s_ok r_ok e_ok _ _ _ (semicolon _ ss ls rs d) = or_left (b symbols.Semi) _ (s_ok refl)
+first_of c newline b t_ok s_ok r_ok e_ok _ ls _ (expands s r ss _ rs h m d) =
+    let ih = sym (begins_append b (row_symbols r) ss) ∙ first_of c newline b t_ok s_ok r_ok e_ok (row_symbols r ++ ss) ls rs d in
     by_row (list_begins b (row_symbols r)) (list_all may_be_empty (row_symbols r)) (list_begins b ss) ih
-    (λ e. r_ok s r h (and_both _ _ m e)) (e_ok s r h)
+    (λ e. r_ok s r h (and_both _ _ (and_first (not (is_left_out c r)) _ (and_first (not (is_left_out c r) && not (is_restricted r && newline)) _ m)) e)) (e_ok s r h)
 
 -- symbols from which nothing is derived may be empty, by the same closure
 pub empty_of : ((s : Symbol) (r : RowId) → Contains (alternatives s) r → list_all may_be_empty (row_symbols r) ≡ true → may_be_empty s ≡ true)
@@ -81,7 +81,7 @@ empty_of e_ok _ _ (expands s r ss _ rs h m d) =
     let ih = sym (list_all-append may_be_empty (row_symbols r) ss) ∙ empty_of e_ok (row_symbols r ++ ss) rs d in
     and_both (may_be_empty s) _ (e_ok s r h (and_first _ _ ih)) (and_second (list_all may_be_empty (row_symbols r)) _ ih)
 
-one_of : (b : Bool) (q r : RowId) → (if b then None else Some q) ≡ Some r → q ≡ r
+pub one_of : (b : Bool) (q r : RowId) → (if b then None else Some q) ≡ Some r → q ≡ r
 one_of true q r e = absurd (none-some r e)
 one_of false q r e = ap (λ o. unwrap_or o q) e
 

@@ -11,7 +11,9 @@ use Rattle.js_grammar.specs.declared.symbols.Symbol.TheVariants as symbols
 use Rattle.js_grammar.specs.declared.symbols.RowId.{RowId}
 use Rattle.js_grammar.specs.Classes.{number_of}
 use Rattle.js_grammar.specs.Choice.{begins_with, row_begins, takes_itself, may_be_empty, is_left_out, row_of}
+use Rattle.js_grammar.specs.Derivation.{may_precede, is_restricted, is_tagged}
 use Rattle.js_grammar.specs.Rows.{alternatives, row_symbols}
+use Rattle.js_grammar.proofs.Begins.{and_first, and_second}
 use Rattle.js_grammar.specs.Laws.{is_decided_by_order, begun_alternatives}
 
 abbrev pub all_classes : List Class
@@ -79,11 +81,11 @@ begins_at _ = refl
 pub begins_settled : (s : Symbol) (c : Class) → (takes_itself c s || list_any (row_begins (begins_with c) c) (alternatives s)) ≡ begins_with c s
 begins_settled s c = from_same _ _ (each_class (λ c. same (takes_itself c s || list_any (row_begins (begins_with c) c) (alternatives s)) (begins_with c s)) (begins_at s) c)
 
-abbrev none_left_out : Class → Option RowId → Bool
-none_left_out c None = true
-none_left_out c (Some r) = not (is_left_out c r)
+abbrev may_be_taken : Symbol → Class → Bool → Option RowId → Bool
+may_be_taken s c newline None = true
+may_be_taken s c newline (Some r) = may_precede r c newline && not (is_tagged s c)
 
-taken_at : (s : Symbol) (newline : Bool) → list_all (λ c. none_left_out c (row_of s c newline)) all_classes ≡ true
+taken_at : (s : Symbol) (newline : Bool) → list_all (λ c. may_be_taken s c newline (row_of s c newline)) all_classes ≡ true
 taken_at symbols.Script true = refl
 taken_at (symbols.Level levels.LogicalOr m) true = refl
 taken_at (symbols.Level _ m) _ = refl
@@ -93,10 +95,28 @@ taken_at (symbols.LevelTail _ _) _ = refl
 taken_at _ true = refl
 taken_at _ false = refl
 
-not_true : (b : Bool) → not b ≡ true → b ≡ false
-not_true true e = sym e
-not_true false e = refl
+taken_fits : (s : Symbol) (c : Class) (newline : Bool) (r : RowId) → row_of s c newline ≡ Some r → (may_precede r c newline && not (is_tagged s c)) ≡ true
+taken_fits s c newline r e = ap (may_be_taken s c newline) (sym e) ∙ each_class (λ c. may_be_taken s c newline (row_of s c newline)) (taken_at s newline) c
+
+-- the row that a symbol takes may stand before the token
+pub taken_precedes : (s : Symbol) (c : Class) (newline : Bool) (r : RowId) → row_of s c newline ≡ Some r → may_precede r c newline ≡ true
+taken_precedes s c newline r e = and_first (may_precede r c newline) _ (taken_fits s c newline r e)
+
+-- and the token is no template of a tag
+pub taken_untagged : (s : Symbol) (c : Class) (newline : Bool) (r : RowId) → row_of s c newline ≡ Some r → not (is_tagged s c) ≡ true
+taken_untagged s c newline r e = and_second (may_precede r c newline) _ (taken_fits s c newline r e)
+
+first_not : (a b d : Bool) → (not a && not b && d) ≡ true → a ≡ false
+first_not true b d e = sym e
+first_not false b d e = refl
+
+second_not : (a b d : Bool) → (not a && not (b && true) && d) ≡ true → b ≡ false
+second_not true true d e = sym e
+second_not false true d e = sym e
+second_not a false d e = refl
 
 pub left_out_not_taken : (s : Symbol) (c : Class) (newline : Bool) (r : RowId) → row_of s c newline ≡ Some r → is_left_out c r ≡ false
-left_out_not_taken s c newline r e =
-    not_true (is_left_out c r) (ap (none_left_out c) (sym e) ∙ each_class (λ c. none_left_out c (row_of s c newline)) (taken_at s newline) c)
+left_out_not_taken s c newline r e = first_not (is_left_out c r) (is_restricted r && newline) _ (taken_precedes s c newline r e)
+
+pub restricted_not_taken : (s : Symbol) (c : Class) (r : RowId) → row_of s c true ≡ Some r → is_restricted r ≡ false
+restricted_not_taken s c r e = second_not (is_left_out c r) (is_restricted r) _ (taken_precedes s c true r e)

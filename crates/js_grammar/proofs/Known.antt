@@ -1,5 +1,5 @@
 -- The tests of the definition are closed under the rows, so they know each derivation's first token.
-use Rattle.std.proofs.Common.{true, List, [], ◌∷◌, ◌≡◌, refl, sym, ap, ◌∙◌}
+use Rattle.std.proofs.Common.{Bool, true, List, [], ◌∷◌, ◌≡◌, refl, sym, ap, ◌∙◌}
 use Rattle.std.specs.List.{Contains, list_all}
 use Rattle.js_grammar.specs.declared.class.Class.{Class}
 use Rattle.js_grammar.specs.declared.class.Class.TheVariants as classes
@@ -26,9 +26,9 @@ token_taken c t e = sym (begins_settled (symbols.Take t) c) ∙ or_left (takes_c
 semicolon_taken : (c : Class) → classes.Semicolon ≡ c → begins_with c symbols.Semi ≡ true
 semicolon_taken c e = ap (λ k. begins_with k symbols.Semi) (sym e) ∙ refl
 
-pub first_known : (ss : List Symbol) (c : Class) (ls : List Leaf) (rs : List RowId)
-    → Derives ss (token c ∷ ls) rs → list_begins (begins_with c) ss ≡ true
-first_known ss c ls rs d = first_of c (begins_with c) (token_taken c) (semicolon_taken c) (begins_closed c) empty_closed ss ls rs d
+pub first_known : (ss : List Symbol) (c : Class) (newline : Bool) (ls : List Leaf) (rs : List RowId)
+    → Derives ss (token c newline ∷ ls) rs → list_begins (begins_with c) ss ≡ true
+first_known ss c newline ls rs d = first_of c newline (begins_with c) (token_taken c) (semicolon_taken c) (begins_closed c) empty_closed ss ls rs d
 
 pub empty_known : (ss : List Symbol) (rs : List RowId) → Derives ss [] rs → list_all may_be_empty ss ≡ true
 empty_known = empty_of empty_closed

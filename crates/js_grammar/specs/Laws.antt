@@ -8,7 +8,7 @@ use Rattle.js_grammar.specs.declared.symbols.Symbol.TheVariants as symbols
 use Rattle.js_grammar.specs.declared.symbols.RowId.{RowId}
 use Rattle.js_grammar.specs.Classes.{same_class, is_among, identifiers}
 use Rattle.js_grammar.specs.Choice.{begins_with, row_begins, takes_itself, may_be_empty, list_begins, is_left_out, needs_same_line, is_throw, row_of}
-use Rattle.js_grammar.specs.Derivation.{Leaf, token, Derives}
+use Rattle.js_grammar.specs.Derivation.{Leaf, token, Derives, is_restricted, no_other_begins}
 use Rattle.js_grammar.specs.Rows.{alternatives, row_symbols}
 
 -- where several alternatives of a symbol begin with a token, and the first of them is taken: a block before an expression
@@ -39,6 +39,15 @@ abbrev pub LeftOutRowsAreNotTaken : Type 0
 LeftOutRowsAreNotTaken = (s : Symbol) (c : Class) (newline : Bool) (r : RowId)
     → row_of s c newline ≡ Some r → is_left_out c r ≡ false
 
+-- a restricted production is never taken at a token after a newline
+abbrev pub RestrictedRowsAreNotTaken : Type 0
+RestrictedRowsAreNotTaken = (s : Symbol) (c : Class) (r : RowId) → row_of s c true ≡ Some r → is_restricted r ≡ false
+
+-- where the token begins an alternative, the row that the symbol takes is one that it begins
+abbrev pub TokensTakeTheirRows : Type 0
+TokensTakeTheirRows = (s : Symbol) (c : Class) (newline : Bool) (r : RowId)
+    → row_of s c newline ≡ Some r → no_other_begins s r c newline ≡ true
+
 -- an alternative that begins with the token is the row that the symbol takes, but where the first of several is taken and
 -- where a newline stands against it
 abbrev pub BegunRowsAreTaken : Type 0
@@ -58,8 +67,8 @@ EmptinessIsSettled = (s : Symbol) → may_be_empty s ≡ list_any (λ r. list_al
 
 -- symbols that derive leaves of which a token is the first begin with that token
 abbrev pub FirstTokensAreKnown : Type 0
-FirstTokensAreKnown = (ss : List Symbol) (c : Class) (ls : List Leaf) (rs : List RowId)
-    → Derives ss (token c ∷ ls) rs → list_begins (begins_with c) ss ≡ true
+FirstTokensAreKnown = (ss : List Symbol) (c : Class) (newline : Bool) (ls : List Leaf) (rs : List RowId)
+    → Derives ss (token c newline ∷ ls) rs → list_begins (begins_with c) ss ≡ true
 
 -- symbols that derive nothing may be empty
 abbrev pub EmptySymbolsAreKnown : Type 0

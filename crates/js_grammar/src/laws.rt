@@ -1,5 +1,5 @@
 // What holds of the definitions alone.
-ghost use Rattle.js_grammar.specs.Laws.{AlternativesAreDisjoint, BegunRowsAreTaken, EmptinessIsSettled, EmptySymbolsAreKnown, FirstTokensAreKnown, FirstsAreSettled, LeftOutRowsAreNotTaken, RowsAreAlternatives};
+ghost use Rattle.js_grammar.specs.Laws.{AlternativesAreDisjoint, BegunRowsAreTaken, EmptinessIsSettled, EmptySymbolsAreKnown, FirstTokensAreKnown, FirstsAreSettled, LeftOutRowsAreNotTaken, RestrictedRowsAreNotTaken, RowsAreAlternatives, TokensTakeTheirRows};
 
 /// No two alternatives of a symbol begin with one token, but where the definition lists that the first of them is taken.
 /// It does nothing: its clause is the law.
@@ -7,11 +7,14 @@ pub fn alternatives_are_disjoint()
     ensures { AlternativesAreDisjoint }
 {}
 
-/// The row that a symbol takes at a token is one of its alternatives, and no expression statement begins with `function`.
-/// It does nothing: its clauses are the law.
+/// The row that a symbol takes at a token is one of its alternatives, one that the token begins where there is one; no
+/// expression statement begins with `function`, and no newline stands in a restricted production. It does nothing: its
+/// clauses are the law.
 pub fn rows_are_alternatives()
     ensures among { RowsAreAlternatives }
     ensures left_out { LeftOutRowsAreNotTaken }
+    ensures restricted { RestrictedRowsAreNotTaken }
+    ensures begun { TokensTakeTheirRows }
 {}
 
 /// An alternative that begins with the token is the row that its symbol takes, but where the first of several is taken and

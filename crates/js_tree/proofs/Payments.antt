@@ -8,12 +8,11 @@ use Rattle.bast_schema.specs.Counts.{size}
 use Rattle.bast_schema.specs.Tree.{Tree}
 use Rattle.js_grammar.specs.Derivation.{Leaf as GrammarLeaf, Derives, nothing, takes, semicolon, counts, expands}
 use Rattle.js_grammar.specs.Rows.{alternatives, row_symbols}
-use Rattle.js_grammar.specs.TokenClasses.{class_in}
 use Rattle.js_grammar.specs.declared.symbols.Level.TheVariants as levels
 use Rattle.js_grammar.specs.declared.symbols.RowId.{RowId}
 use Rattle.js_grammar.specs.declared.symbols.Symbol.{Symbol}
 use Rattle.js_grammar.specs.declared.symbols.Symbol.TheVariants as symbols
-use Rattle.js_machine.specs.Laws.{rows_among, leaves, tokens_among, classes_in}
+use Rattle.js_machine.specs.Laws.{rows_among, leaves, tokens_among, token_in, tokens_in}
 use Rattle.js_machine.specs.Machine.{Accepted, Ends}
 use Rattle.js_machine.specs.declared.events.Event.{Event}
 use Rattle.js_machine.proofs.Explained.{whole}
@@ -136,16 +135,16 @@ debts_join (s ∷ ss) ts = omega (arith, debts_join ss ts)
 
 derivation_pays : (ss : List Symbol) (ls : List GrammarLeaf) (rs : List RowId) → Derives ss ls rs → rows_cost rs + debts ss ≤ 7 * length (tokens_among ls) + credits ss
 derivation_pays _ _ _ nothing = omega arith
-derivation_pays _ _ _ (takes t c ss ls rs is d) = omega (arith, derivation_pays ss ls rs d)
-derivation_pays _ _ _ (semicolon ss ls rs d) = omega (arith, derivation_pays ss ls rs d)
-derivation_pays _ _ _ (counts ss ls rs d) = omega (arith, derivation_pays ss ls rs d)
+derivation_pays _ _ _ (takes t c newline ss ls rs is d) = omega (arith, derivation_pays ss ls rs d)
+derivation_pays _ _ _ (semicolon newline ss ls rs d) = omega (arith, derivation_pays ss ls rs d)
+derivation_pays _ _ _ (counts ss ls rs before d) = omega (arith, derivation_pays ss ls rs d)
 derivation_pays _ _ _ (expands s r ss ls rs c b d) =
     omega (arith, derivation_pays (row_symbols r ++ ss) ls rs d, row_pays s r c, credits_join (row_symbols r) ss, debts_join (row_symbols r) ss)
 
 pub trees_are_small : (text : List ℕ) (ts : List Token) (ls : List Leaf) (es : List Event) (t : Tree) → Ends text ts (Accepted es) → tree_of limited ls es ≡ Ok t → size t < 7 * length ts
 trees_are_small text ts ls es t ends made =
     let w = whole text ts es ends.0 (length text) ends.1
-    in let paid = derivation_pays (symbols.Script ∷ []) (leaves es (classes_in text ts)) (rows_among es) w.0
+    in let paid = derivation_pays (symbols.Script ∷ []) (leaves es (tokens_in text ts)) (rows_among es) w.0
     in let cost = tree_costs ls es t made
-    in let same : length (tokens_among (leaves es (classes_in text ts))) ≡ length ts = ap length w.1 ∙ length-map ts (class_in text)
+    in let same : length (tokens_among (leaves es (tokens_in text ts))) ≡ length ts = ap length w.1 ∙ length-map ts (token_in text)
     in omega (arith, paid, cost, same)

@@ -10,7 +10,7 @@ use Rattle.js_grammar.specs.declared.symbols.RowId.{RowId}
 use Rattle.js_grammar.specs.declared.symbols.RowId.TheVariants as rows
 use Rattle.js_grammar.specs.declared.symbols.Symbol.{Symbol}
 use Rattle.js_grammar.specs.declared.symbols.Symbol.TheVariants as symbols
-use Rattle.js_machine.specs.Laws.{rows_among, leaves, classes_in}
+use Rattle.js_machine.specs.Laws.{rows_among, leaves, tokens_in}
 use Rattle.js_machine.specs.Machine.{Accepted, Ends}
 use Rattle.js_machine.specs.declared.events.Event.{Event}
 use Rattle.js_machine.specs.declared.events.Event.TheVariants.{Row, Took, Inserted}
@@ -44,9 +44,9 @@ row_of_script s r same c = one_row rows.Script r (subst (λ s. Contains (alterna
 
 first_row : (ss : List Symbol) (ls : List GrammarLeaf) (rs : List RowId) (r : RowId) (qs : List RowId) → Derives ss ls rs → ss ≡ symbols.Script ∷ [] → rs ≡ r ∷ qs → rows.Script ≡ r
 first_row _ _ _ r qs nothing e f = absurd cc
-first_row _ _ _ r qs (takes t c ss ls rs is d) e f = absurd cc
-first_row _ _ _ r qs (semicolon ss ls rs d) e f = absurd cc
-first_row _ _ _ r qs (counts ss ls rs d) e f = absurd cc
+first_row _ _ _ r qs (takes t c newline ss ls rs is d) e f = absurd cc
+first_row _ _ _ r qs (semicolon newline ss ls rs d) e f = absurd cc
+first_row _ _ _ r qs (counts ss ls rs before d) e f = absurd cc
 first_row _ _ _ r qs (expands s q ss ls rs c b d) e f = let same : symbols.Script ≡ s = cc in let row : q ≡ r = cc in row_of_script s q same c ∙ row
 
 -- one node of a kind
@@ -122,4 +122,4 @@ script_of ls es first = then TopOf (λ t. kind_of t ≡ kinds.Script) (image lim
 pub trees_are_scripts : (text : List ℕ) (ts : List Token) (ls : List Leaf) (es : List Event) (t : Tree) → Ends text ts (Accepted es) → tree_of limited ls es ≡ Ok t → kind_of t ≡ kinds.Script
 trees_are_scripts text ts ls es t ends made =
     held_in (λ t. kind_of t ≡ kinds.Script) (tree_of limited ls es) t
-    (script_of ls es (λ r qs e. first_row (symbols.Script ∷ []) (leaves es (classes_in text ts)) (rows_among es) r qs (whole text ts es ends.0 (length text) ends.1).0 refl e)) made
+    (script_of ls es (λ r qs e. first_row (symbols.Script ∷ []) (leaves es (tokens_in text ts)) (rows_among es) r qs (whole text ts es ends.0 (length text) ends.1).0 refl e)) made
