@@ -251,7 +251,7 @@ mutual
   filled_depth_among none = refl_le 0
   filled_depth_among (more d ds) = max_less (depth_at (filled_at d)) (depth_at d) (depth_in (filled_among ds)) (depth_in ds) (filled_depth_at d) (filled_depth_among ds)
 
-from_is_true : (b : Bool) → IsTrue b → b ≡ true
+pub from_is_true : (b : Bool) → IsTrue b → b ≡ true
 from_is_true true h = refl
 from_is_true false h = cc
 

@@ -23,3 +23,4 @@ pub mod RenamedNames
 pub mod RenamedExact
 pub mod ExactOfBare
 pub mod RenamedTyped
+pub mod ExactSize

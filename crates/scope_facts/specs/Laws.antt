@@ -1,5 +1,6 @@
 -- What holds of exact scopes.
-use Rattle.std.specs.Prelude.{ℕ, Bool, true, ◌≡◌, List, [], Option}
+use Rattle.std.specs.Prelude.{ℕ, Bool, true, ◌≡◌, ◌≤◌, ◌*◌, List, [], Option}
+use Rattle.bast_schema.specs.Counts.{size}
 use Rattle.bast_schema.specs.Eager.{is_eager}
 use Rattle.bast_schema.specs.NamesHold.{names_hold}
 use Rattle.bast_schema.specs.Tree.{Tree, Data, typed}
@@ -47,3 +48,7 @@ NumbersMeanNothing =
 -- the exact scopes of a well-typed tree without lazy functions don't depend on the scopes that it has
 abbrev pub ExactOfBare : Type 0
 ExactOfBare = (texts : List (Option (List ℕ))) (t : Tree) → typed t ≡ true → is_eager t ≡ true → exact texts (bare t) ≡ exact texts t
+
+-- a tree with exact scopes has at most four times as many values as the well-typed tree that it is made of
+abbrev pub FourTimesAtMost : Type 0
+FourTimesAtMost = (texts : List (Option (List ℕ))) (t : Tree) → typed t ≡ true → size (exact texts t) ≤ 4 * size t

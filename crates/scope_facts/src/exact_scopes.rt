@@ -19,7 +19,8 @@ use string_table::StringTable;
 /// the scope is outside that function; a scope has a direct eval where one stands in what it covers. What the scopes of
 /// the tree said before does not count.
 ///
-/// The tree stays as well typed, no deeper, without windows where it has none, and names nothing new.
+/// The tree stays as well typed, no deeper, without windows where it has none, and names nothing new. It has at most four
+/// times as many values.
 ///
 /// The time is about linear in the size of the tree, and the depth of the recursion is bounded by the tree's depth.
 pub fn annotate(alloc: Global, tree: Node, strings: &StringTable) -> Result<Node, Memory>
@@ -28,6 +29,7 @@ pub fn annotate(alloc: Global, tree: Node, strings: &StringTable) -> Result<Node
     ensures whole { IfOk result (λ t. is_whole tree ≡ true → is_whole t ≡ true) }
     ensures names { IfOk result (λ t. (p : ℕ → Bool) → names_hold p tree ≡ true → names_hold p t ≡ true) }
     ensures depth { IfOk result (λ t. depth t ≤ depth tree) }
+    ensures size { IfOk result (λ t. size t ≤ 2 ^ 30) }
 {
     let eval = name_of_eval(strings);
     let tree = fill_node(alloc, tree)?;

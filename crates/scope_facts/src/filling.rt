@@ -1,4 +1,4 @@
-ghost use Rattle.std.specs.Prelude.{◌≡◌, ◌≤◌, ◌^◌, IfOk, true};
+ghost use Rattle.std.specs.Prelude.{◌≡◌, ◌≤◌, ◌*◌, ◌^◌, IfOk, true};
 ghost use Rattle.bast_schema.specs.View.{datum, data_of};
 ghost use Rattle.bast_schema.specs.Counts.{size, size_at, size_in};
 ghost use Rattle.scope_facts.specs.Uses.{is_scope};
@@ -33,7 +33,8 @@ fn fill_scope(alloc: Global, names: &[u32], scope: Value, after: &[Value]) -> Re
 #[cycle(fill)]
 pub(crate) fn fill_node(alloc: Global, node: Node) -> Result<Node, Memory>
     requires { size node ≤ 2 ^ 28 }
-    ensures { IfOk result (λ t. t ≡ filled node) }
+    ensures filled { IfOk result (λ t. t ≡ filled node) }
+    ensures size { IfOk result (λ t. size t ≤ 4 * size node) }
 {
     let (kind, fields) = node.parts();
     let mut names = Vec::new(alloc);

@@ -1,5 +1,5 @@
 // What holds of the definitions alone.
-ghost use Rattle.scope_facts.specs.Laws.{BareOfExact, CapturedExactly, EvalsAreTold, ExactOfBare, NumbersMeanNothing, ScopesDeclareNothing, UsesAreCaptured};
+ghost use Rattle.scope_facts.specs.Laws.{BareOfExact, CapturedExactly, EvalsAreTold, ExactOfBare, FourTimesAtMost, NumbersMeanNothing, ScopesDeclareNothing, UsesAreCaptured};
 
 /// An entry is captured exactly where some use of its name inside a function has its nearest declaration there, outside
 /// that function.
@@ -36,4 +36,9 @@ pub fn numbers_of_names_mean_nothing()
 /// The exact scopes of a well-typed tree without lazy functions don't depend on the scopes that it has.
 pub fn exact_scopes_depend_on_no_scopes()
     ensures { ExactOfBare }
+{}
+
+/// A well-typed tree has at most four times as many values with exact scopes as with its own.
+pub fn exact_scopes_are_small()
+    ensures { FourTimesAtMost }
 {}

@@ -23,9 +23,9 @@ pub use entries::{are_simple, make_entries};
 pub use evals::{is_eval_call, name_of_eval};
 pub use exact_scopes::annotate;
 pub use laws::{
-    entries_are_captured_exactly, evals_are_told_by_all_scopes, exact_scopes_change_scopes_alone,
-    exact_scopes_depend_on_no_scopes, numbers_of_names_mean_nothing, scopes_declare_nothing,
-    uses_find_captured_entries,
+    entries_are_captured_exactly, evals_are_told_by_all_scopes, exact_scopes_are_small,
+    exact_scopes_change_scopes_alone, exact_scopes_depend_on_no_scopes,
+    numbers_of_names_mean_nothing, scopes_declare_nothing, uses_find_captured_entries,
 };
 pub use names::{
     Declared, NameKind, bound_name, first_name_of, put_bound, put_bound_below, put_items,

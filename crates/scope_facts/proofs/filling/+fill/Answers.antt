@@ -1,9 +1,12 @@
-use Rattle.std.proofs.Common.{refl, ◌∙◌, ap, arith}
+use Rattle.std.proofs.Common.{refl, ◌∙◌, ◌*◌, ◌≡◌, ◌≤◌, ap, arith, rules, subst, sym}
+use Rattle.bast_schema.specs.Counts.{size}
+use Rattle.bast_schema.specs.Tree.{typed}
 use Rattle.bast_schema.specs.View.{data_of}
-use Rattle.scope_facts.specs.Filled.{filled_in}
+use Rattle.scope_facts.specs.Filled.{filled, filled_in}
 use Rattle.scope_facts.proofs.Loops.{item_weighs, item_size, step_on}
 use Rattle.scope_facts.proofs.FilledItems.{filled_step}
-use Rattle.scope_facts.proofs.FilledTyped.{filled_made}
+use Rattle.scope_facts.proofs.ExactSize.{filled_small}
+use Rattle.scope_facts.proofs.FilledTyped.{filled_made, from_is_true}
 use Rattle.scope_facts.proofs.filling.+fill.Goals as goal
 
 pub fill_items-fill_value-requires : goal.fill_items-fill_value-requires
@@ -18,3 +21,8 @@ fill_items-loop-value-preserved t c = record {
 pub fill_node-rebuilt-requires : goal.fill_node-rebuilt-requires
 fill_node-rebuilt-requires t c = filled_made _ _ _ _ c.parts-kind.ensures.tree c.parts-kind.ensures.typed c.parts-kind.ensures.depth c.requires
     (c.in_ok-fields.ensures ∙ ap (λ ns. filled_in ns (data_of c.parts-kind.result.1.items)) (c.deref-2.ensures.value ∙ c.in_ok-put_bound.ensures ∙ rw (c.new-names.ensures.items, c.deref.ensures.value) refl))
+
+pub fill_node-returns-clause-size : goal.fill_node-returns-clause-size
+fill_node-returns-clause-size t c =
+    let is : c.rebuilt.result ≡ filled c.args.node = search rules
+    in subst (λ u. size u ≤ 4 * size c.args.node) (sym is) (filled_small c.args.node (from_is_true (typed c.args.node) c.parts-kind.ensures.typed))
