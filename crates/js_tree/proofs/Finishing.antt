@@ -28,8 +28,8 @@ use Rattle.js_tree.specs.declared.recipe.Declared.TheVariants as declared
 use Rattle.js_tree.specs.declared.recipe.Finish.{Finish}
 use Rattle.js_tree.specs.declared.recipe.Finish.TheVariants as finishes
 use Rattle.js_tree.specs.declared.work.Work.{Work}
-use Rattle.js_tree.proofs.Holding.{Holds, then, each_result, Each, is_made, Kept, HoldsLeaf, HoldsForm, HoldsEnding, HoldsEndings, HoldsParts, HoldsWork, each_join, node_made, name_made}
-use Rattle.js_tree.proofs.Gathering.{Got, ValuesTaken, values_taken, first_taken, one_taken, one_node_taken, no_names_held, no_parameters_held, all_made_by, all_got}
+use Rattle.js_tree.proofs.Holding.{Holds, then, each_result, Each, is_made, Kept, HoldsLeaf, HoldsForm, HoldsEnding, HoldsEndings, HoldsParts, HoldsWork, each_join, node_made, name_made, scope_made, parameter_scope_made}
+use Rattle.js_tree.proofs.Gathering.{Got, ValuesTaken, values_taken, first_taken, one_taken, one_node_taken, all_made_by, all_got}
 
 -- a tree of which it holds
 abbrev pub Has : (Datum → Type 0) → Tree → Type 0
@@ -58,8 +58,8 @@ parameters_held m P kept t h = parameters_held_or m P kept t (identifier t) refl
 contents_held : (m : Maker) (P : Datum → Type 0) → Kept m P → (params : Tree) (body : Data) → P (child params) → Each P body → Holds (Has P) (contents_of m params body)
 unfolding contents_of
 contents_held m P kept params body h k =
-    then (Has P) (Has P) (m kinds.AssertedParameterScope no_parameter_names) _ (node_made m P kept kinds.AssertedParameterScope no_parameter_names refl (no_parameters_held m P kept))
-    (λ scope is. then (Has P) (Has P) (m kinds.AssertedVarScope no_names) (λ vars. m kinds.FunctionContents (more (child scope) (more (child params) (more (child vars) body)))) (node_made m P kept kinds.AssertedVarScope no_names refl (no_names_held m P kept))
+    then (Has P) (Has P) (m kinds.AssertedParameterScope no_parameter_names) _ (parameter_scope_made m P kept)
+    (λ scope is. then (Has P) (Has P) (m kinds.AssertedVarScope no_names) (λ vars. m kinds.FunctionContents (more (child scope) (more (child params) (more (child vars) body)))) (scope_made m P kept kinds.AssertedVarScope refl refl)
     (λ vars iv. node_made m P kept kinds.FunctionContents (more (child scope) (more (child params) (more (child vars) body))) refl (is, (h, (iv, k)))))
 
 label_held : (m : Maker) (P : Datum → Type 0) → Kept m P → (t : Tree) (o : Option ℕ) → identifier t ≡ o → P (child t) → Holds P (there o >>= λ n. Ok (name n))
@@ -259,7 +259,7 @@ finish_held m P kept finishes.NoItems w ps is h k = (tt, k)
 finish_held m P kept finishes.Switch w ps is h k = switch_held m P kept w ps h k
 finish_held m P kept finishes.Parameters w ps is h k = all_parameters_held m P kept w ps h k
 
--- no row makes a kind that is lazy
+-- no row makes a kind that is lazy, or a scope that tells names
 pub row_makes : (r : RowId) → (all_made_by (recipe r).0 ≡ true) × (is_finished_by (recipe r).1 ≡ true)
 row_makes rows.Script = (refl, refl)
 row_makes rows.Items = (refl, refl)

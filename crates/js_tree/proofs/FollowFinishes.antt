@@ -1,14 +1,17 @@
 -- What a row makes with the limit of what was gathered follows what it makes without it.
-use Rattle.std.proofs.Common.{◌≡◌, ◌≤◌, ◌==◌, ℕ, cond, Bool, true, false, not, ◌||◌, length, List, [], ◌∷◌, Option, Some, None, Result, Ok, refl, sym, subst, arith}
+use Rattle.std.proofs.Common.{◌≡◌, ◌≤◌, ◌==◌, ℕ, cond, Bool, true, false, not, ◌&&◌, length, List, [], ◌∷◌, Option, Some, None, Result, Ok, refl, sym, subst, arith}
 use Rattle.std.proofs.lemmas.Bool.{eqb-true}
 use Rattle.bast_base.specs.declared.errors.NameId.{NameId}
 use Rattle.bast_schema.specs.declared.kind.Kind.{Kind}
 use Rattle.bast_schema.specs.declared.kind.Kind.TheVariants as kinds
 use Rattle.bast_schema.specs.Counts.{join}
-use Rattle.bast_schema.specs.Fields.{has_lazy}
 use Rattle.bast_schema.specs.Kinds.{same_kind, counted}
 use Rattle.bast_schema.specs.Tree.{Tree, branch, Datum, child, absent, listed, flag, index, whole, name, no_name, choice, window, Data, none, more, depth, depth_at, depth_in}
 use Rattle.js_grammar.specs.declared.symbols.Symbol.{Symbol}
+use Rattle.scope_facts.specs.Bare.{empty_fields}
+use Rattle.scope_facts.specs.Roles.{shape_of}
+use Rattle.scope_facts.specs.declared.roles.Shape.{Shape}
+use Rattle.scope_facts.specs.declared.roles.Shape.TheVariants.{Parameters}
 use Rattle.js_tree.specs.Finishes.{folds, statement, shorthand, property, filled, fills}
 use Rattle.js_tree.specs.Nodes.{one, two, identifier, first_name, limited, unlimited, one_parameter, parameters_or, parameters_of, no_names, no_parameter_names, contents_of, stands, ended, folded}
 use Rattle.js_tree.specs.Parts.{one_value, node_in, one_node, one_ending}
@@ -23,7 +26,7 @@ use Rattle.js_tree.specs.declared.parts.Ending.{Ending}
 use Rattle.js_tree.specs.declared.parts.Ending.TheVariants as endings
 use Rattle.js_tree.specs.declared.parts.Item.{Item}
 use Rattle.js_tree.specs.declared.work.Work.{Work}
-use Rattle.js_tree.proofs.Holding.{Each, is_made, Kept, HoldsEndings, HoldsWork}
+use Rattle.js_tree.proofs.Holding.{Each, is_common, is_made, Kept, HoldsEndings, HoldsWork}
 use Rattle.js_tree.proofs.Finishing.{ended_held}
 use Rattle.js_tree.proofs.Following.{Follows, done, failed, known, weaker, andthen, Flat, FlatIn, FlatForm, FlatEnding, FlatEndings, FlatParts, FlatWork, FlatGot, flat_join, node_follows}
 use Rattle.js_tree.proofs.FollowSteps.{one_follows, no_items, no_data, alone, made_follows}
@@ -34,10 +37,10 @@ abbrev pub IsIdent : Datum → Type 0
 IsIdent (child t) = (n : ℕ) → identifier t ≡ Some n → Flat t
 IsIdent _ = Unit {0}
 
-not_both : (a b : Bool) → not (a || b) ≡ true → b ≡ false
-not_both true b e = absurd cc
-not_both false true e = absurd cc
-not_both false false e = refl
+second_not : (a b : Bool) → (a && not b) ≡ true → b ≡ false
+second_not false b e = absurd cc
+second_not true true e = absurd cc
+second_not true false e = refl
 
 no_name_of : {A : Type 0} (b : Bool) (o : Option ℕ) (n : ℕ) → b ≡ false → cond b o None ≡ Some n → A
 no_name_of true o n e f = absurd cc
@@ -48,14 +51,22 @@ one_at_most true = omega arith
 one_at_most false = omega arith
 
 ident_made : (k : Kind) (ds : Data) (t : Tree) → is_made k ≡ true → unlimited k ds ≡ Ok t → IsIdent (child t)
-ident_made k ds t is made = let same : branch k ds ≡ t = cc in subst (λ t. IsIdent (child t)) same (λ n e. no_name_of (same_kind k kinds.IdentifierExpression) (first_name ds) n (not_both (has_lazy k) (same_kind k kinds.IdentifierExpression) is) e)
+ident_made k ds t is made = let same : branch k ds ≡ t = cc in subst (λ t. IsIdent (child t)) same (λ n e. no_name_of (same_kind k kinds.IdentifierExpression) (first_name ds) n (second_not (is_common k) (same_kind k kinds.IdentifierExpression) is) e)
 
 ident_named : (k : Kind) (n : ℕ) (t : Tree) → unlimited k (one (name n)) ≡ Ok t → IsIdent (child t)
 ident_named k n t made = let same : branch k (one (name n)) ≡ t = cc in subst (λ t. IsIdent (child t)) same (λ i e. omega (arith, one_at_most (counted k)))
 
+empty_flat : (s : Shape) → depth_in (empty_fields s) ≡ 0
+empty_flat Parameters = refl
+empty_flat _ = refl
+
+ident_scope : (k : Kind) (s : Shape) (t : Tree) → unlimited k (empty_fields s) ≡ Ok t → IsIdent (child t)
+ident_scope k s t made = let same : branch k (empty_fields s) ≡ t = cc in subst (λ t. IsIdent (child t)) same (λ i e. omega (arith, one_at_most (counted k), empty_flat s))
+
 pub ident_kept : Kept unlimited IsIdent
 ident_kept = record {
   node = λ k ds t is h made. ident_made k ds t is made;
+  scope = λ k t is made. ident_scope k (shape_of k) t made;
   named = λ k n t is h made. ident_named k n t made;
   shorthand = λ ds t u h made again. ident_made kinds.ShorthandProperty (one (child t)) u refl again;
   name_of = λ t n h e. tt;

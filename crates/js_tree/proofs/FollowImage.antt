@@ -28,7 +28,7 @@ use Rattle.js_tree.specs.declared.work.Work.{Work}
 use Rattle.js_tree.proofs.Holding.{Holds, each_result, HoldsParts}
 use Rattle.js_tree.proofs.Gathering.{Got, all_got}
 use Rattle.js_tree.proofs.Finishing.{HoldsState, image_held, nothing, row_makes}
-use Rattle.js_tree.proofs.Following.{Follows, Agrees, alike, done, failed, known, weaker, andthen, mapped, Flat, FlatIn, FlatParts, FlatWork, FlatGot}
+use Rattle.js_tree.proofs.Following.{Follows, Agrees, Unrefused, alike, done, failed, known, weaker, andthen, mapped, Flat, FlatIn, FlatParts, FlatWork, FlatGot}
 use Rattle.js_tree.proofs.FollowSteps.{Stepped, all_follow}
 use Rattle.js_tree.proofs.FollowFinishes.{IsIdent, ident_kept, one_node_follows, either_follows}
 use Rattle.js_tree.proofs.FollowAll.{RawRow, raw_row, finish_follows, nothing_empty}
@@ -174,7 +174,7 @@ root_follows s (parts.Endings es ∷ ps) laid = failed _ _ _
 root_follows s (parts.Items is ∷ ps) laid = failed _ _ _
 root_follows s (parts.Values ds raw ∷ ps) laid =
     either_follows (FlatParts (parts.Values ds raw ∷ ps)) Flat (λ t. Unit {0}) (length ps == 0) (one_node ds) (one_node ds) broken broken
-    (λ e. alike (FlatParts (parts.Values ds raw ∷ ps)) Flat (λ t. Unit {0}) (one_node ds)
+    (λ e. alike (FlatParts (parts.Values ds raw ∷ ps)) Flat (λ t. Unit {0}) (one_node ds) (one_node_follows (Unit {0}) ds).unrefused
     (mapped (λ t. Unit {0} × Flat t → Unit {0} × FlatIn ds) (λ t. Flat t → FlatParts (parts.Values ds raw ∷ ps)) (one_node ds) (λ t f flat. ((f (tt, flat)).1, none_more ps laid.1)) (one_node_follows (Unit {0}) ds).back)
     (each_result (λ t. Unit {0}) (one_node ds) (λ t e. tt)))
     (λ e. failed _ _ _)
@@ -197,3 +197,6 @@ trees_are_same text ts ls es t ends made = agrees_ok (tree_of limited ls es) (tr
 pub deep_trees : (text : List ℕ) (ts : List Token) (ls : List Leaf) (es : List Event) (t : Tree) → Ends text ts (Accepted es) → tree_of limited ls es ≡ Err faults.TooDeep → tree_of unlimited ls es ≡ Ok t → 512 < depth t
 deep_trees text ts ls es t ends refused made =
     let deep : depth t ≤ 512 → ⊥ = agrees_deep (tree_of limited ls es) (tree_of unlimited ls es) t (tree_follows es ls (accepted_leads text ts es ends)).agrees refused made in omega (arith, deep)
+
+pub trees_are_unrefused : (text : List ℕ) (ts : List Token) (ls : List Leaf) (es : List Event) → Ends text ts (Accepted es) → Unrefused (tree_of unlimited ls es)
+trees_are_unrefused text ts ls es ends = (tree_follows es ls (accepted_leads text ts es ends)).unrefused

@@ -7,11 +7,13 @@ use Rattle.bast_schema.specs.declared.kind.Kind.TheVariants as kinds
 use Rattle.bast_schema.specs.Counts.{join}
 use Rattle.bast_schema.specs.Tree.{Tree, branch, Datum, child, absent, listed, flag, index, whole, name, no_name, choice, window, Data, none, more, depth, depth_at, depth_in}
 use Rattle.js_grammar.specs.declared.symbols.Symbol.{Symbol}
+use Rattle.js_tokens.specs.declared.kinds.TokenKind.{TokenKind}
+use Rattle.js_tokens.specs.declared.kinds.TokenKind.TheVariants as tokens
 use Rattle.js_tree.specs.Nodes.{one, two, no_names, no_parameter_names, limited, unlimited, statements, behind_directive, behind_directives, directives, directives_from}
 use Rattle.js_tree.specs.Operators.{operator}
 use Rattle.js_tree.specs.Parts.{first_value, one_value, taken_leaf, taken_values, taken_endings, taken_items}
 use Rattle.js_tree.specs.Leads.{is_leaf}
-use Rattle.js_tree.specs.Results.{◌>>=◌, there}
+use Rattle.js_tree.specs.Results.{◌>>=◌, there, broken}
 use Rattle.js_tree.specs.Steps.{gather, gathered, with_value, with_node, step_on, skip, put, operand, wrap, text, number, whole_number, named, quoted, with_operator, parameter_of, parameter, template_part, tail, rest, with_statements, body, hold, resume, closed}
 use Rattle.js_tree.specs.declared.fault.Fault.{Fault}
 use Rattle.js_tree.specs.declared.parts.Part.{Part}
@@ -22,7 +24,7 @@ use Rattle.js_tree.specs.declared.recipe.Step.{Step}
 use Rattle.js_tree.specs.declared.recipe.Step.TheVariants as steps
 use Rattle.js_tree.specs.declared.work.Work.{Work}
 use Rattle.js_tree.proofs.Holding.{each_result}
-use Rattle.js_tree.proofs.Following.{Follows, done, failed, alike, known, weaker, andthen, Flat, FlatIn, FlatEndings, FlatItems, FlatPart, FlatParts, FlatWork, FlatGot, flat_join, flat_endings, node_follows}
+use Rattle.js_tree.proofs.Following.{Follows, Unrefused, done, failed, alike, known, weaker, andthen, Flat, FlatIn, FlatEndings, FlatItems, FlatPart, FlatParts, FlatWork, FlatGot, flat_join, flat_endings, node_follows}
 use Rattle.js_tree.proofs.Laying.{AllPlain, AllAround, Arounds, is_accessor, PlainEnds, SmallTree, RawItems, LeafIf, is_plain, Laid, Flow, Empty, adds, with_raw, with_tail, with_rest, with_body, holds, resumes, may_step, left_by, after, may_all, left_by_all, after_all}
 
 abbrev pub Stepped : Flow → List Symbol → Work × List Part → Type 0
@@ -32,8 +34,16 @@ abbrev pub Nothing : {A : Type 0} → A → Type 0
 Nothing x = Unit {0}
 
 -- what a result is no part of
-pub keep : {A : Type 0} (S : Type 0) (r : Result A Fault) → Follows S (λ x. S) (λ x. Unit {0}) r r
-keep S r = alike S (λ x. S) (λ x. Unit {0}) r (each_result (λ x. S → S) r (λ x e s. s)) (each_result (λ x. Unit {0}) r (λ x e. tt))
+keep : {A : Type 0} (S : Type 0) (r : Result A Fault) → Unrefused r → Follows S (λ x. S) (λ x. Unit {0}) r r
+keep S r unrefused = alike S (λ x. S) (λ x. Unit {0}) r unrefused (each_result (λ x. S → S) r (λ x e s. s)) (each_result (λ x. Unit {0}) r (λ x e. tt))
+
+keep_there : {A : Type 0} (S : Type 0) (o : Option A) → Follows S (λ x. S) (λ x. Unit {0}) (there o) (there o)
+keep_there S None = keep S broken tt
+keep_there S (Some x) = keep S (Ok x) tt
+
+keep_number : (S : Type 0) (k : TokenKind) → Follows S (λ x. S) (λ x. Unit {0}) (number k) (number k)
+keep_number S (tokens.Number n) = keep S (Ok n) tt
+keep_number S _ = keep S broken tt
 
 pub leaf_follows : (C : Type 0) (x : Symbol) (xs : List Symbol) (ps : List Part) → Laid (x ∷ xs) ps → Follows (C × FlatParts ps) (λ l. C × FlatParts l.1) (λ l. Laid xs l.1) (taken_leaf ps) (taken_leaf ps)
 leaf_follows C x xs [] laid = failed _ _ _
@@ -160,32 +170,32 @@ text_follows : (b : Flow) (w : Work) (x : Symbol) (xs : List Symbol) (ps : List 
 unfolding text
 text_follows b w x xs ps e laid =
     andthen (FlatGot (w, ps)) (λ l. FlatWork w × FlatParts l.1) (λ l. Laid xs l.1) FlatGot (Stepped (adds b) xs) (taken_leaf ps) (taken_leaf ps) _ _ (leaf_follows (FlatWork w) x xs ps laid)
-    (λ l j. andthen (FlatGot (w, l.1)) (λ n. FlatGot (w, l.1)) (λ n. Unit {0}) FlatGot (Stepped (adds b) xs) (there l.0.text) (there l.0.text) (λ n. with_value (name n.0) w l.1) (λ n. with_value (name n.0) w l.1) (keep _ _) (λ n u. plain_value b (name n.0) w xs l.1 e j))
+    (λ l j. andthen (FlatGot (w, l.1)) (λ n. FlatGot (w, l.1)) (λ n. Unit {0}) FlatGot (Stepped (adds b) xs) (there l.0.text) (there l.0.text) (λ n. with_value (name n.0) w l.1) (λ n. with_value (name n.0) w l.1) (keep_there _ l.0.text) (λ n u. plain_value b (name n.0) w xs l.1 e j))
 
 whole_follows : (b : Flow) (w : Work) (x : Symbol) (xs : List Symbol) (ps : List Part) → Empty b w → Laid (x ∷ xs) ps → Follows (FlatGot (w, ps)) FlatGot (Stepped (adds b) xs) (whole_number w ps) (whole_number w ps)
 unfolding whole_number
 whole_follows b w x xs ps e laid =
     andthen (FlatGot (w, ps)) (λ l. FlatWork w × FlatParts l.1) (λ l. Laid xs l.1) FlatGot (Stepped (adds b) xs) (taken_leaf ps) (taken_leaf ps) _ _ (leaf_follows (FlatWork w) x xs ps laid)
-    (λ l j. andthen (FlatGot (w, l.1)) (λ n. FlatGot (w, l.1)) (λ n. Unit {0}) FlatGot (Stepped (adds b) xs) (number l.0.kind) (number l.0.kind) (λ n. with_value (whole n) w l.1) (λ n. with_value (whole n) w l.1) (keep _ _) (λ n u. plain_value b (whole n) w xs l.1 e j))
+    (λ l j. andthen (FlatGot (w, l.1)) (λ n. FlatGot (w, l.1)) (λ n. Unit {0}) FlatGot (Stepped (adds b) xs) (number l.0.kind) (number l.0.kind) (λ n. with_value (whole n) w l.1) (λ n. with_value (whole n) w l.1) (keep_number _ l.0.kind) (λ n u. plain_value b (whole n) w xs l.1 e j))
 
 operator_follows : (o : EnumId) (b : Flow) (w : Work) (x : Symbol) (xs : List Symbol) (ps : List Part) → Empty b w → Laid (x ∷ xs) ps → Follows (FlatGot (w, ps)) FlatGot (Stepped (adds b) xs) (with_operator o w ps) (with_operator o w ps)
 unfolding with_operator
 operator_follows o b w x xs ps e laid =
     andthen (FlatGot (w, ps)) (λ l. FlatWork w × FlatParts l.1) (λ l. Laid xs l.1) FlatGot (Stepped (adds b) xs) (taken_leaf ps) (taken_leaf ps) _ _ (leaf_follows (FlatWork w) x xs ps laid)
-    (λ l j. andthen (FlatGot (w, l.1)) (λ n. FlatGot (w, l.1)) (λ n. Unit {0}) FlatGot (Stepped (adds b) xs) (there (operator o l.0.kind)) (there (operator o l.0.kind)) (λ n. with_value (choice n) w l.1) (λ n. with_value (choice n) w l.1) (keep _ _) (λ n u. plain_value b (choice n) w xs l.1 e j))
+    (λ l j. andthen (FlatGot (w, l.1)) (λ n. FlatGot (w, l.1)) (λ n. Unit {0}) FlatGot (Stepped (adds b) xs) (there (operator o l.0.kind)) (there (operator o l.0.kind)) (λ n. with_value (choice n) w l.1) (λ n. with_value (choice n) w l.1) (keep_there _ (operator o l.0.kind)) (λ n u. plain_value b (choice n) w xs l.1 e j))
 
 named_follows : (k : Kind) (b : Flow) (w : Work) (x : Symbol) (xs : List Symbol) (ps : List Part) → Empty b w → Laid (x ∷ xs) ps → Follows (FlatGot (w, ps)) FlatGot (Stepped (adds b) xs) (named limited k w ps) (named unlimited k w ps)
 unfolding named
 named_follows k b w x xs ps e laid =
     andthen (FlatGot (w, ps)) (λ l. FlatWork w × FlatParts l.1) (λ l. Laid xs l.1) FlatGot (Stepped (adds b) xs) (taken_leaf ps) (taken_leaf ps) _ _ (leaf_follows (FlatWork w) x xs ps laid)
-    (λ l j. andthen (FlatGot (w, l.1)) (λ n. FlatGot (w, l.1)) (λ n. Unit {0}) FlatGot (Stepped (adds b) xs) (there l.0.text) (there l.0.text) (λ n. with_node (limited k (one (name n.0))) w l.1) (λ n. with_node (unlimited k (one (name n.0))) w l.1) (keep _ _)
+    (λ l j. andthen (FlatGot (w, l.1)) (λ n. FlatGot (w, l.1)) (λ n. Unit {0}) FlatGot (Stepped (adds b) xs) (there l.0.text) (there l.0.text) (λ n. with_node (limited k (one (name n.0))) w l.1) (λ n. with_node (unlimited k (one (name n.0))) w l.1) (keep_there _ l.0.text)
     (λ n u. tree_follows (FlatGot (w, l.1)) (λ t. branch k (one (name n.0)) ≡ t) (limited k (one (name n.0))) (unlimited k (one (name n.0))) b w xs l.1 e j (made_follows (FlatGot (w, l.1)) k (one (name n.0)))))
 
 quoted_follows : (b : Flow) (w : Work) (x : Symbol) (xs : List Symbol) (ps : List Part) → Empty b w → Laid (x ∷ xs) ps → Follows (FlatGot (w, ps)) FlatGot (Stepped (with_raw b) xs) (quoted limited w ps) (quoted unlimited w ps)
 unfolding quoted
 quoted_follows b w x xs ps e laid =
     andthen (FlatGot (w, ps)) (λ l. FlatWork w × FlatParts l.1) (λ l. Laid xs l.1) FlatGot (Stepped (with_raw b) xs) (taken_leaf ps) (taken_leaf ps) _ _ (leaf_follows (FlatWork w) x xs ps laid)
-    (λ l j. andthen (FlatGot (w, l.1)) (λ n. FlatGot (w, l.1)) (λ n. Unit {0}) FlatGot (Stepped (with_raw b) xs) (there l.0.text) (there l.0.text) _ _ (keep _ _)
+    (λ l j. andthen (FlatGot (w, l.1)) (λ n. FlatGot (w, l.1)) (λ n. Unit {0}) FlatGot (Stepped (with_raw b) xs) (there l.0.text) (there l.0.text) _ _ (keep_there _ l.0.text)
     (λ n u. andthen (FlatGot (w, l.1)) (λ t. FlatGot (w, l.1) × Flat t) (λ t. branch kinds.LiteralStringExpression (one (name n.0)) ≡ t) FlatGot (Stepped (with_raw b) xs)
     (limited kinds.LiteralStringExpression (one (name n.0))) (unlimited kinds.LiteralStringExpression (one (name n.0))) _ _ (made_follows (FlatGot (w, l.1)) kinds.LiteralStringExpression (one (name n.0)))
     (λ t k. done _ _ _ (record w { values = join w.values (one (child t)); raw = l.0.raw }, l.1) (λ z. let k = raw_back w (one (child t)) l.0.raw z.0 in ((k.0, z.1), alone (child t) k.1)) (raw_added b w (join w.values (one (child t))) l.0.raw e, j))))
@@ -209,7 +219,7 @@ parameter_follows : (b : Flow) (w : Work) (x y : Symbol) (xs : List Symbol) (ps 
 unfolding parameter
 parameter_follows b w x y xs ps e laid =
     andthen (FlatGot (w, ps)) (λ l. FlatWork w × FlatParts l.1) (λ l. Laid (y ∷ xs) l.1) FlatGot (Stepped (adds b) xs) (taken_leaf ps) (taken_leaf ps) _ _ (leaf_follows (FlatWork w) x (y ∷ xs) ps laid)
-    (λ l j. andthen (FlatGot (w, l.1)) (λ n. FlatGot (w, l.1)) (λ n. Unit {0}) FlatGot (Stepped (adds b) xs) (there l.0.text) (there l.0.text) _ _ (keep _ _)
+    (λ l j. andthen (FlatGot (w, l.1)) (λ n. FlatGot (w, l.1)) (λ n. Unit {0}) FlatGot (Stepped (adds b) xs) (there l.0.text) (there l.0.text) _ _ (keep_there _ l.0.text)
     (λ n u. andthen (FlatGot (w, l.1)) (λ t. FlatGot (w, l.1) × Flat t) (λ t. branch kinds.BindingIdentifier (one (name n.0)) ≡ t) FlatGot (Stepped (adds b) xs)
     (limited kinds.BindingIdentifier (one (name n.0))) (unlimited kinds.BindingIdentifier (one (name n.0))) _ _ (made_follows (FlatGot (w, l.1)) kinds.BindingIdentifier (one (name n.0)))
     (λ t k. andthen (FlatGot (w, l.1) × Flat t) (FlatValues (FlatWork w × Flat t)) (KnownValues xs) FlatGot (Stepped (adds b) xs) (taken_values l.1) (taken_values l.1) _ _

@@ -33,17 +33,26 @@ Agrees T (Err faults.TooDeep) q = Holds (λ y. T y → ⊥) q
 Agrees T (Err faults.Broken) q = Unit {0}
 Agrees T (Err faults.Memory) q = Unit {0}
 
--- it agrees, what went into a shallow result was shallow, and this is known of the result
+-- it is not refused for its depth
+abbrev pub Unrefused : {A : Type 0} → Result A Fault → Type 0
+Unrefused (Ok x) = Unit {0}
+Unrefused (Err faults.TooDeep) = ⊥
+Unrefused (Err faults.Broken) = Unit {0}
+Unrefused (Err faults.Memory) = Unit {0}
+
+-- it agrees, the other is not refused for its depth, what went into a shallow result was shallow, and this is known of the
+-- result
 pub record Follows {A : Type 0} (S : Type 0) (T K : A → Type 0) (r q : Result A Fault) : Type 0 where
   pub agrees : Agrees T r q
+  pub unrefused : Unrefused q
   pub back : Holds (λ z. T z → S) q
   pub fact : Holds K q
 
 pub done : {A : Type 0} (S : Type 0) (T K : A → Type 0) (z : A) → (T z → S) → K z → Follows S T K (Ok z) (Ok z)
-done S T K z back fact = record { agrees = refl; back = back; fact = fact }
+done S T K z back fact = record { agrees = refl; unrefused = tt; back = back; fact = fact }
 
 pub failed : {A : Type 0} (S : Type 0) (T K : A → Type 0) → Follows {A = A} S T K broken broken
-failed S T K = record { agrees = tt; back = tt; fact = tt }
+failed S T K = record { agrees = tt; unrefused = tt; back = tt; fact = tt }
 
 same_result : {A : Type 0} (T : A → Type 0) (r : Result A Fault) → Agrees T r r
 same_result T (Ok x) = refl
@@ -51,14 +60,14 @@ same_result T (Err faults.TooDeep) = tt
 same_result T (Err faults.Broken) = tt
 same_result T (Err faults.Memory) = tt
 
-pub alike : {A : Type 0} (S : Type 0) (T K : A → Type 0) (r : Result A Fault) → Holds (λ z. T z → S) r → Holds K r → Follows S T K r r
-alike S T K r back fact = record { agrees = same_result T r; back = back; fact = fact }
+pub alike : {A : Type 0} (S : Type 0) (T K : A → Type 0) (r : Result A Fault) → Unrefused r → Holds (λ z. T z → S) r → Holds K r → Follows S T K r r
+alike S T K r unrefused back fact = record { agrees = same_result T r; unrefused = unrefused; back = back; fact = fact }
 
 pub weaker : {A : Type 0} (S R : Type 0) (T K : A → Type 0) (r q : Result A Fault) → (S → R) → Follows S T K r q → Follows R T K r q
-weaker S R T K r q f h = record { agrees = h.agrees; back = mapped (λ z. T z → S) (λ z. T z → R) q (λ z g t. f (g t)) h.back; fact = h.fact }
+weaker S R T K r q f h = record { agrees = h.agrees; unrefused = h.unrefused; back = mapped (λ z. T z → S) (λ z. T z → R) q (λ z g t. f (g t)) h.back; fact = h.fact }
 
 pub known : {A : Type 0} (S : Type 0) (T K L : A → Type 0) (r q : Result A Fault) → Holds L q → Follows S T K r q → Follows S T L r q
-known S T K L r q fact h = record { agrees = h.agrees; back = h.back; fact = fact }
+known S T K L r q fact h = record { agrees = h.agrees; unrefused = h.unrefused; back = h.back; fact = fact }
 
 go_on : {A B : Type 0} (S : Type 0) (U J : A → Type 0) (T K : B → Type 0) (q : Result A Fault) (g : A → Result B Fault)
     → Holds (λ y. U y → S) q → Holds J q → ((y : A) → J y → Holds (λ z. T z → U y) (g y) × Holds K (g y)) → Holds (λ z. T z → S) (q >>= g) × Holds K (q >>= g)
@@ -78,11 +87,22 @@ agree_on U J T (Err faults.TooDeep) q f g agrees fact next back = deep_on U J T 
 agree_on U J T (Err faults.Broken) q f g agrees fact next back = tt
 agree_on U J T (Err faults.Memory) q f g agrees fact next back = tt
 
+unrefused_on : {A B : Type 0} (J : A → Type 0) (q : Result A Fault) (g : A → Result B Fault) → Unrefused q → Holds J q → ((y : A) → J y → Unrefused (g y)) → Unrefused (q >>= g)
+unrefused_on J (Ok y) g u fact next = next y fact
+unrefused_on J (Err faults.TooDeep) g u fact next = u
+unrefused_on J (Err faults.Broken) g u fact next = tt
+unrefused_on J (Err faults.Memory) g u fact next = tt
+
 pub andthen : {A B : Type 0} (S : Type 0) (U J : A → Type 0) (T K : B → Type 0) (r q : Result A Fault) (f g : A → Result B Fault)
     → Follows S U J r q → ((x : A) → J x → Follows (U x) T K (f x) (g x)) → Follows S T K (r >>= f) (q >>= g)
 andthen S U J T K r q f g h next =
     let o = go_on S U J T K q g h.back h.fact (λ y j. ((next y j).back, (next y j).fact))
-    in record { agrees = agree_on U J T r q f g h.agrees h.fact (λ x j. (next x j).agrees) (λ y j. (next y j).back); back = o.0; fact = o.1 }
+    in record {
+      agrees = agree_on U J T r q f g h.agrees h.fact (λ x j. (next x j).agrees) (λ y j. (next y j).back);
+      unrefused = unrefused_on J q g h.unrefused h.fact (λ y j. (next y j).unrefused);
+      back = o.0;
+      fact = o.1;
+    }
 
 -- a tree that is not too deep
 abbrev pub Flat : Tree → Type 0
@@ -155,4 +175,4 @@ shallow_in : (k : Kind) (ds : Data) → Flat (branch k ds) → FlatIn ds
 shallow_in k ds flat = omega (arith, flat)
 
 pub node_follows : (C : Type 0) (k : Kind) (ds : Data) → Follows (C × FlatIn ds) (λ t. C × Flat t) (λ t. branch k ds ≡ t) (limited k ds) (unlimited k ds)
-node_follows C k ds = record { agrees = agree_right C (first_wrong 0 (fields k) ds) (branch k ds); back = λ h. (h.0, shallow_in k ds h.1); fact = refl }
+node_follows C k ds = record { agrees = agree_right C (first_wrong 0 (fields k) ds) (branch k ds); unrefused = tt; back = λ h. (h.0, shallow_in k ds h.1); fact = refl }

@@ -7,6 +7,7 @@ use Rattle.bast_schema.specs.declared.kind.Kind.TheVariants as kinds
 use Rattle.bast_schema.specs.Counts.{join}
 use Rattle.bast_schema.specs.Fields.{has_lazy}
 use Rattle.bast_schema.specs.Tree.{Tree, Datum, child, absent, listed, flag, index, whole, name, no_name, choice, window, Data, none, more}
+use Rattle.scope_facts.specs.Roles.{shape_of}
 use Rattle.js_tree.specs.Nodes.{Maker, one, two, no_names, no_parameter_names, statements, behind_directive, behind_directives, directives, directives_from}
 use Rattle.js_tree.specs.Operators.{operator}
 use Rattle.js_tree.specs.Parts.{first_value, one_value, node_in, one_node, without_top, taken_leaf, taken_values, taken_endings, taken_items}
@@ -21,7 +22,7 @@ use Rattle.js_tree.specs.declared.parts.Item.{Item}
 use Rattle.js_tree.specs.declared.recipe.Step.{Step}
 use Rattle.js_tree.specs.declared.recipe.Step.TheVariants as steps
 use Rattle.js_tree.specs.declared.work.Work.{Work}
-use Rattle.js_tree.proofs.Holding.{Holds, then, each_result, Each, is_made, Kept, HoldsName, HoldsLeaf, HoldsEndings, HoldsItems, HoldsParts, HoldsWork, each_join, endings_join, name_there, node_made, name_made}
+use Rattle.js_tree.proofs.Holding.{Holds, then, each_result, Each, is_common, is_made, Kept, HoldsName, HoldsLeaf, HoldsEndings, HoldsItems, HoldsParts, HoldsWork, each_join, endings_join, name_there, node_made, name_made, has_one_flag, scope_made, parameter_scope_made}
 
 -- what was gathered, and the parts that are left
 abbrev pub Got : (Datum → Type 0) → Work × List Part → Type 0
@@ -143,7 +144,7 @@ whole_got m P kept w ps h k =
     then (LeafTaken P) (Got P) (taken_leaf ps) (λ l. number l.0.kind >>= λ n. with_value (whole n) w l.1) (leaf_taken P ps k)
     (λ l r. then (λ n. P (whole n)) (Got P) (number l.0.kind) (λ n. with_value (whole n) w l.1) (each_result (λ n. P (whole n)) (number l.0.kind) (λ n e. kept.wholes n)) (λ n s. value_got P (whole n) w l.1 s h r.1))
 
-named_got : (m : Maker) (P : Datum → Type 0) → Kept m P → (j : Kind) → has_lazy j ≡ false → (w : Work) (ps : List Part) → HoldsWork P w → HoldsParts P ps → Holds (Got P) (named m j w ps)
+named_got : (m : Maker) (P : Datum → Type 0) → Kept m P → (j : Kind) → is_common j ≡ true → (w : Work) (ps : List Part) → HoldsWork P w → HoldsParts P ps → Holds (Got P) (named m j w ps)
 unfolding named
 named_got m P kept j is w ps h k =
     then (LeafTaken P) (Got P) (taken_leaf ps) (λ l. there l.0.text >>= λ n. with_node (m j (one (name n.0))) w l.1) (leaf_taken P ps k)
@@ -273,10 +274,10 @@ closed_got m P kept j is w h =
     then (λ t. P (child t)) (HoldsWork P) (m j w.values) (λ t. Ok (record w { values = one (child t) })) (node_made m P kept j w.values is h.values)
     (λ t it. record { values = (it, tt); held = h.held; directives = h.directives; raw = h.raw; endings = h.endings; items = h.items })
 
--- no step of a recipe makes a kind that is lazy
+-- no step of a recipe makes a kind that is lazy, or a scope that tells names
 abbrev pub is_made_by : Step → Bool
-is_made_by (steps.Named k) = not (has_lazy k)
-is_made_by (steps.Scope k) = is_made k
+is_made_by (steps.Named k) = is_common k
+is_made_by (steps.Scope k) = not (has_lazy k) && has_one_flag (shape_of k)
 is_made_by (steps.Close k) = is_made k
 is_made_by _ = true
 
@@ -284,11 +285,9 @@ not_lazy : (b : Bool) → not b ≡ true → b ≡ false
 not_lazy true e = sym e
 not_lazy false e = refl
 
-pub no_names_held : (m : Maker) (P : Datum → Type 0) → Kept m P → Each P no_names
-no_names_held m P kept = (kept.list none tt, (kept.flags false, tt))
-
-pub no_parameters_held : (m : Maker) (P : Datum → Type 0) → Kept m P → Each P no_parameter_names
-no_parameters_held m P kept = (kept.list none tt, (kept.flags false, (kept.flags false, tt)))
+both : (a b : Bool) → (a && b) ≡ true → (a ≡ true) × (b ≡ true)
+both true b e = (refl, e)
+both false b e = absurd cc
 
 step_got : (m : Maker) (P : Datum → Type 0) → Kept m P → (s : Step) (w : Work) (ps : List Part) → is_made_by s ≡ true → HoldsWork P w → HoldsParts P ps → Holds (Got P) (step_on m s w ps)
 step_got m P kept steps.Skip w ps is h k = skip_got P w ps h k
@@ -297,7 +296,7 @@ step_got m P kept steps.Operand w ps is h k = operand_got P w ps h k
 step_got m P kept steps.Wrap w ps is h k = wrap_got m P kept w ps h k
 step_got m P kept steps.Text w ps is h k = text_got P w ps h k
 step_got m P kept steps.Whole w ps is h k = whole_got m P kept w ps h k
-step_got m P kept (steps.Named j) w ps is h k = named_got m P kept j (not_lazy (has_lazy j) is) w ps h k
+step_got m P kept (steps.Named j) w ps is h k = named_got m P kept j is w ps h k
 step_got m P kept steps.Quoted w ps is h k = quoted_got m P kept w ps h k
 step_got m P kept (steps.Operator e) w ps is h k = operator_got m P kept e w ps h k
 step_got m P kept steps.Parameter w ps is h k = parameter_got m P kept w ps h k
@@ -311,9 +310,8 @@ step_got m P kept steps.NoLabel w ps is h k = value_got P no_name w ps kept.no_l
 step_got m P kept steps.NoItems w ps is h k = value_got P (listed none) w ps (kept.list none tt) h k
 step_got m P kept (steps.Flag b) w ps is h k = value_got P (flag b) w ps (kept.flags b) h k
 step_got m P kept (steps.Choice n) w ps is h k = value_got P (choice n) w ps (kept.choices n) h k
-step_got m P kept (steps.Scope j) w ps is h k = node_got P (m j no_names) w ps (node_made m P kept j no_names is (no_names_held m P kept)) h k
-step_got m P kept steps.ParameterScope w ps is h k =
-    node_got P (m kinds.AssertedParameterScope no_parameter_names) w ps (node_made m P kept kinds.AssertedParameterScope no_parameter_names refl (no_parameters_held m P kept)) h k
+step_got m P kept (steps.Scope j) w ps is h k = let b = both (not (has_lazy j)) (has_one_flag (shape_of j)) is in node_got P (m j no_names) w ps (scope_made m P kept j (not_lazy (has_lazy j) b.0) b.1) h k
+step_got m P kept steps.ParameterScope w ps is h k = node_got P (m kinds.AssertedParameterScope no_parameter_names) w ps (parameter_scope_made m P kept) h k
 step_got m P kept steps.Hold w ps is h k = (hold_got P w h, k)
 step_got m P kept steps.Resume w ps is h k = (resume_got m P kept w h, k)
 step_got m P kept (steps.Close j) w ps is h k = then (HoldsWork P) (Got P) (closed m j w) (λ x. Ok (x, ps)) (closed_got m P kept j is w h) (λ x ix. (ix, k))
@@ -321,10 +319,6 @@ step_got m P kept (steps.Close j) w ps is h k = then (HoldsWork P) (Got P) (clos
 abbrev pub all_made_by : List Step → Bool
 all_made_by [] = true
 all_made_by (s ∷ ss) = is_made_by s && all_made_by ss
-
-both : (a b : Bool) → (a && b) ≡ true → (a ≡ true) × (b ≡ true)
-both true b e = (refl, e)
-both false b e = absurd cc
 
 pub all_got : (m : Maker) (P : Datum → Type 0) → Kept m P → (ss : List Step) (w : Work) (ps : List Part) → all_made_by ss ≡ true → HoldsWork P w → HoldsParts P ps → Holds (Got P) (gathered m ss w ps)
 all_got m P kept [] w ps is h k = (h, k)

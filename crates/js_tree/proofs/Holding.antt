@@ -1,5 +1,5 @@
 -- What holds of each value that is gathered, where it holds of what is made of such values.
-use Rattle.std.proofs.Common.{◌≡◌, ℕ, Bool, true, false, not, ◌||◌, List, [], ◌∷◌, ◌++◌, Option, Some, None, Result, Ok, Err, refl}
+use Rattle.std.proofs.Common.{◌≡◌, ℕ, Bool, true, false, not, ◌&&◌, ◌||◌, List, [], ◌∷◌, ◌++◌, Option, Some, None, Result, Ok, Err, refl, subst}
 use Rattle.bast_base.specs.declared.errors.NameId.{NameId}
 use Rattle.bast_schema.specs.declared.kind.Kind.{Kind}
 use Rattle.bast_schema.specs.declared.kind.Kind.TheVariants as kinds
@@ -7,7 +7,11 @@ use Rattle.bast_schema.specs.Counts.{join}
 use Rattle.bast_schema.specs.Fields.{has_lazy}
 use Rattle.bast_schema.specs.Kinds.{same_kind}
 use Rattle.bast_schema.specs.Tree.{Tree, Datum, child, absent, listed, flag, whole, name, no_name, choice, Data, none, more}
-use Rattle.js_tree.specs.Nodes.{Maker, one, identifier}
+use Rattle.scope_facts.specs.Bare.{empty_fields}
+use Rattle.scope_facts.specs.Roles.{part, is_scope_part, shape_of}
+use Rattle.scope_facts.specs.declared.roles.Shape.{Shape}
+use Rattle.scope_facts.specs.declared.roles.Shape.TheVariants.{Parameters}
+use Rattle.js_tree.specs.Nodes.{Maker, one, identifier, no_names, no_parameter_names}
 use Rattle.js_tree.specs.Results.{◌>>=◌, there}
 use Rattle.js_tree.specs.declared.fault.Fault.{Fault}
 use Rattle.js_tree.specs.declared.leaf.Leaf.{Leaf}
@@ -38,13 +42,18 @@ abbrev pub Each : (Datum → Type 0) → Data → Type 0
 Each P none = Unit {0}
 Each P (more d ds) = P d × Each P ds
 
--- a kind of node that is made of any values: no lazy one, and no identifier, which is made of a name
+-- a kind of node that is no lazy one and no scope
+abbrev pub is_common : Kind → Bool
+is_common k = not (has_lazy k || is_scope_part (part k))
+
+-- a kind of node that is made of any values: a common one, and no identifier, which is made of a name
 abbrev pub is_made : Kind → Bool
-is_made k = not (has_lazy k || same_kind k kinds.IdentifierExpression)
+is_made k = is_common k && not (same_kind k kinds.IdentifierExpression)
 
 pub record Kept (m : Maker) (P : Datum → Type 0) : Type 0 where
   pub node : (k : Kind) (ds : Data) (t : Tree) → is_made k ≡ true → Each P ds → m k ds ≡ Ok t → P (child t)
-  pub named : (k : Kind) (n : ℕ) (t : Tree) → has_lazy k ≡ false → P (name n) → m k (one (name n)) ≡ Ok t → P (child t)
+  pub scope : (k : Kind) (t : Tree) → has_lazy k ≡ false → m k (empty_fields (shape_of k)) ≡ Ok t → P (child t)
+  pub named : (k : Kind) (n : ℕ) (t : Tree) → is_common k ≡ true → P (name n) → m k (one (name n)) ≡ Ok t → P (child t)
   pub shorthand : (ds : Data) (t u : Tree) → Each P ds → m kinds.IdentifierExpression ds ≡ Ok t → m kinds.ShorthandProperty (one (child t)) ≡ Ok u → P (child u)
   pub name_of : (t : Tree) (n : ℕ) → P (child t) → identifier t ≡ Some n → P (name n)
   pub list : (ds : Data) → Each P ds → P (listed ds)
@@ -115,5 +124,26 @@ name_there P (Some n) h = h
 pub node_made : (m : Maker) (P : Datum → Type 0) → Kept m P → (k : Kind) (ds : Data) → is_made k ≡ true → Each P ds → Holds (λ t. P (child t)) (m k ds)
 node_made m P kept k ds is h = each_result (λ t. P (child t)) (m k ds) (λ t. kept.node k ds t is h)
 
-pub name_made : (m : Maker) (P : Datum → Type 0) → Kept m P → (k : Kind) (n : ℕ) → has_lazy k ≡ false → P (name n) → Holds (λ t. P (child t)) (m k (one (name n)))
+pub name_made : (m : Maker) (P : Datum → Type 0) → Kept m P → (k : Kind) (n : ℕ) → is_common k ≡ true → P (name n) → Holds (λ t. P (child t)) (m k (one (name n)))
 name_made m P kept k n is h = each_result (λ t. P (child t)) (m k (one (name n))) (λ t. kept.named k n t is h)
+
+-- of a scope that says nothing
+pub empty_held : (P : Datum → Type 0) → P (listed none) → P (flag false) → (s : Shape) → Each P (empty_fields s)
+empty_held P l f Parameters = (l, (f, (f, tt)))
+empty_held P l f _ = (l, (f, tt))
+
+-- whether a scope of that shape has one flag
+abbrev pub has_one_flag : Shape → Bool
+has_one_flag Parameters = false
+has_one_flag _ = true
+
+fields_of_one : (s : Shape) → has_one_flag s ≡ true → empty_fields s ≡ no_names
+fields_of_one Parameters e = cc
+fields_of_one _ e = refl
+
+pub scope_made : (m : Maker) (P : Datum → Type 0) → Kept m P → (k : Kind) → has_lazy k ≡ false → has_one_flag (shape_of k) ≡ true → Holds (λ t. P (child t)) (m k no_names)
+scope_made m P kept k is one =
+    subst (λ ds. Holds (λ t. P (child t)) (m k ds)) (fields_of_one (shape_of k) one) (each_result (λ t. P (child t)) (m k (empty_fields (shape_of k))) (λ t. kept.scope k t is))
+
+pub parameter_scope_made : (m : Maker) (P : Datum → Type 0) → Kept m P → Holds (λ t. P (child t)) (m kinds.AssertedParameterScope no_parameter_names)
+parameter_scope_made m P kept = each_result (λ t. P (child t)) (m kinds.AssertedParameterScope no_parameter_names) (λ t. kept.scope kinds.AssertedParameterScope t refl)

@@ -1,5 +1,5 @@
 -- What the machine accepts of the tokens of a text has a tree.
-use Rattle.std.proofs.Common.{◌≡◌, ℕ, Bool, true, false, List, [], ◌∷◌, Option, Some, None, Result, Ok, Err, refl, sym, ap, ◌∙◌, subst, length, nat_lt, ◌^◌}
+use Rattle.std.proofs.Common.{◌≡◌, ◌≤◌, ◌<◌, ℕ, Bool, true, false, List, [], ◌∷◌, Option, Some, None, Result, Ok, Err, refl, sym, ap, ◌∙◌, subst, length, nat_lt, ◌^◌, arith}
 use Rattle.js_tokens.specs.declared.kinds.Token.{Token}
 use Rattle.js_tokens.specs.declared.kinds.TokenKind.{TokenKind}
 use Rattle.js_tokens.specs.declared.kinds.TokenKind.TheVariants as tokens
@@ -13,26 +13,32 @@ use Rattle.js_tokens.specs.Spelling.{mark_text, word_text}
 use Rattle.js_grammar.specs.declared.class.Class.{Class}
 use Rattle.js_grammar.specs.declared.class.Class.TheVariants as classes
 use Rattle.js_grammar.specs.TokenClasses.{class_in, class_of_kind, class_of_identifier, class_of_word, class_of_mark, class_of_piece, bytes_between}
+use Rattle.js_machine.specs.declared.events.Event.{Event}
 use Rattle.js_machine.specs.Lookahead.{seen}
+use Rattle.js_machine.specs.Machine.{Accepted, Ends}
 use Rattle.bast_schema.specs.declared.kind.EnumId.{EnumId}
 use Rattle.bast_schema.specs.declared.kind.EnumId.TheVariants as sets
 use Rattle.bast_schema.specs.declared.kind.Kind.TheVariants as kinds
 use Rattle.bast_schema.specs.declared.kind.Union.TheVariants as unions
 use Rattle.bast_schema.specs.Choices.{choice_texts, choice_of_text}
-use Rattle.bast_schema.specs.Tree.{Tree}
+use Rattle.bast_schema.specs.Tree.{Tree, depth}
+use Rattle.js_tokens.specs.Tokens.{AreTokens}
 use Rattle.js_tree.specs.Image.{tree_of}
-use Rattle.js_tree.specs.Nodes.{limited}
+use Rattle.js_tree.specs.Nodes.{Maker, limited, unlimited}
 use Rattle.js_tree.specs.Operators.{operator}
 use Rattle.js_tree.specs.declared.fault.Fault.{Fault}
 use Rattle.js_tree.specs.declared.fault.Fault.TheVariants as faults
 use Rattle.js_tree.specs.declared.leaf.Leaf.{Leaf}
-use Rattle.js_tree.specs.Tells.{has_text, Tells, LeavesTell, IsScriptOrDeep, AcceptedHaveTrees}
-use Rattle.js_tree.proofs.Sorts.{LeafIs, tells_text, is_number, is_operator, Safely, Is}
+use Rattle.js_tree.specs.Tells.{has_text, Tells, LeavesTell, AcceptedHaveTrees}
+use Rattle.js_tree.proofs.Sorts.{LeafIs, tells_text, is_number, is_operator, IsMaker, Safely, Is}
 use Rattle.js_tree.proofs.Small.{is_small, AreSmall, tokens_small}
 use Rattle.js_tree.proofs.Accepted.{LeavesAre}
 use Rattle.js_tree.proofs.Heads.{Marked, Waits, heads_close}
 use Rattle.js_tree.proofs.Marks.{identifier_class, tokens_marked}
-use Rattle.js_tree.proofs.Trees.{accepted_tree, limited_makes}
+use Rattle.js_tree.proofs.Trees.{accepted_tree, limited_makes, unlimited_makes}
+use Rattle.js_tree.proofs.FollowImage.{trees_are_same, deep_trees, trees_are_unrefused}
+use Rattle.js_tree.proofs.Following.{Unrefused}
+use Rattle.js_tree.proofs.TreesHold.{trees_are_shallow}
 
 -- texts
 mark_told : {A : Type 0} (m : Mark) (h : Bool) → tells_text (class_of_mark m h) ≡ true → A
@@ -156,14 +162,37 @@ leaves_are text [] (l ∷ ls) tell small = tell
 leaves_are text (t ∷ ts) [] tell small = tell
 leaves_are text (t ∷ ts) (l ∷ ls) tell small = (leaf_is text t l tell.0 small.0, leaves_are text ts ls tell.1 small.1)
 
-script_or_deep : (r : Result Tree Fault) → Safely (Is (unions.One kinds.Script)) r → IsScriptOrDeep r
-script_or_deep (Ok t) is = is
-script_or_deep (Err faults.TooDeep) is = tt
-script_or_deep (Err faults.Broken) is = is
-script_or_deep (Err faults.Memory) is = is
+-- a typed script, unless it is refused for its depth
+pub accepted_are_safe : (m : Maker) → IsMaker m → (text : List ℕ) (ts : List Token) (ls : List Leaf) (events : List Event) → AreTokens text ts → LeavesTell ts ls → Ends text ts (Accepted events) → Safely (Is (unions.One kinds.Script)) (tree_of m ls events)
+accepted_are_safe m maker text ts ls events are tell ends =
+    accepted_tree m maker Waits heads_close ends.0 (length text) (seen text ts) ls events (leaves_are text ts ls tell (subst AreSmall (sym are.1.1) (tokens_small text are.0 are.1.0)))
+    (tt, subst (λ ts. Marked (seen text ts)) (sym are.1.1) (tokens_marked text are.0)) ends.1
+
+found_script : (r : Result Tree Fault) → Safely (Is (unions.One kinds.Script)) r → Unrefused r → (t : Tree) × (r ≡ Ok t) × Is (unions.One kinds.Script) t
+found_script (Ok t) is unrefused = (t, refl, is)
+found_script (Err faults.TooDeep) is unrefused = absurd unrefused
+found_script (Err faults.Broken) is unrefused = absurd is
+found_script (Err faults.Memory) is unrefused = absurd is
+
+one_image : (q : Result Tree Fault) (t u : Tree) → q ≡ Ok t → q ≡ Ok u → u ≡ t
+one_image q t u e f = cc
+
+-- a tree where it is at most 512 deep, and else refused for its depth
+abbrev Exactly : Tree → Result Tree Fault → Type 0
+Exactly t r = (depth t ≤ 512 → r ≡ Ok t) × (512 < depth t → r ≡ Err faults.TooDeep)
+
+refused_exactly : (t : Tree) (r : Result Tree Fault) → Safely (Is (unions.One kinds.Script)) r → ((u : Tree) → r ≡ Ok u → (u ≡ t) × (depth u ≤ 512)) → (r ≡ Err faults.TooDeep → 512 < depth t) → Exactly t r
+refused_exactly t (Ok u) is same deep =
+    let s = same u refl in let shallow : depth t ≤ 512 = subst (λ t. depth t ≤ 512) s.0 s.1 in (λ h. ap Ok s.0, λ h. absurd (omega (arith, shallow, h)))
+refused_exactly t (Err faults.TooDeep) is same deep = let d : 512 < depth t = deep refl in (λ h. absurd (omega (arith, d, h)), λ h. refl)
+refused_exactly t (Err faults.Broken) is same deep = absurd is
+refused_exactly t (Err faults.Memory) is same deep = absurd is
 
 pub accepted_have_trees : AcceptedHaveTrees
 accepted_have_trees text ts ls events are tell ends =
-    script_or_deep (tree_of limited ls events)
-    (accepted_tree limited limited_makes Waits heads_close ends.0 (length text) (seen text ts) ls events (leaves_are text ts ls tell (subst AreSmall (sym are.1.1) (tokens_small text are.0 are.1.0)))
-    (tt, subst (λ ts. Marked (seen text ts)) (sym are.1.1) (tokens_marked text are.0)) ends.1)
+    let f = found_script (tree_of unlimited ls events) (accepted_are_safe unlimited unlimited_makes text ts ls events are tell ends) (trees_are_unrefused text ts ls events ends)
+    in let exactly =
+    refused_exactly f.0 (tree_of limited ls events) (accepted_are_safe limited limited_makes text ts ls events are tell ends)
+    (λ u e. (one_image (tree_of unlimited ls events) f.0 u f.1 (trees_are_same text ts ls events u ends e), trees_are_shallow ls events u e))
+    (λ e. deep_trees text ts ls events f.0 ends e f.1)
+    in record { tree = f.0; image = f.1; script = f.2; shallow = exactly.0; deep = exactly.1 }

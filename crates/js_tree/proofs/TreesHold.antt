@@ -1,5 +1,5 @@
 -- What holds of the trees that steps stand for.
-use Rattle.std.proofs.Common.{◌≡◌, ◌≤◌, ℕ, cond, Bool, true, false, not, ◌&&◌, ◌||◌, List, [], ◌∷◌, ◌++◌, reverse, Option, Some, None, Result, Ok, Err, refl, sym, ap, subst, arith}
+use Rattle.std.proofs.Common.{◌≡◌, ◌≤◌, ℕ, cond, Bool, true, false, not, ◌&&◌, ◌||◌, List, [], ◌∷◌, ◌++◌, reverse, Option, Some, None, Result, Ok, Err, refl, sym, ap, ◌∙◌, subst, arith}
 use Rattle.std.specs.Prelude.{nat_lt}
 use Rattle.std.proofs.lemmas.List.{reverse-append}
 use borrow.Author.Tests.{ltb-false}
@@ -14,13 +14,17 @@ use Rattle.bast_schema.specs.Made.{node_or}
 use Rattle.bast_schema.specs.Tree.{Tree, branch, Datum, child, absent, listed, flag, index, whole, name, no_name, choice, window, Data, none, more, first_wrong, depth, depth_at, depth_in}
 use Rattle.js_machine.specs.declared.events.Event.{Event}
 use Rattle.bast_schema.specs.Eager.{is_eager, is_eager_at, are_eager}
+use Rattle.scope_facts.specs.Bare.{empty_fields, bare_scope, bare, bare_at, bare_in}
+use Rattle.scope_facts.specs.Roles.{part, is_scope_part, shape_of}
+use Rattle.scope_facts.specs.Uses.{is_scope}
+use Rattle.scope_facts.proofs.ExactOfBare.{eager_is}
 use Rattle.js_tree.specs.Image.{image, root, tree_of}
 use Rattle.bast_schema.specs.NamesHold.{names_hold, names_hold_at, names_hold_in}
 use Rattle.js_tree.specs.Names.{IsNameIn, AreNamesIn}
 use Rattle.js_tree.specs.Nodes.{Maker, one, identifier, first_name, limited, of_node}
 use Rattle.js_tree.specs.declared.fault.Fault.{Fault}
 use Rattle.js_tree.specs.declared.leaf.Leaf.{Leaf}
-use Rattle.js_tree.proofs.Holding.{Holds, then, Each, Kept, HoldsName}
+use Rattle.js_tree.proofs.Holding.{Holds, then, Each, is_common, Kept, HoldsName, empty_held}
 use Rattle.js_tree.proofs.Finishing.{Has, HoldsLeaves, HoldsState, image_held, root_held}
 
 -- what is made with the limit is the node, and is at most 512 deep
@@ -85,6 +89,7 @@ whole_node k ds t h made = subst (λ t. is_whole t ≡ true) (limited_made k ds 
 whole_kept : Kept limited IsWhole
 whole_kept = record {
   node = λ k ds t is h made. whole_node k ds t h made;
+  scope = λ k t is made. whole_node k (empty_fields (shape_of k)) t (empty_held IsWhole refl refl (shape_of k)) made;
   named = λ k n t is h made. whole_node k (one (name n)) t (h, tt) made;
   shorthand = λ ds t u h made again. whole_node kinds.ShorthandProperty (one (child t)) u (whole_node kinds.IdentifierExpression ds t h made, tt) again;
   name_of = λ t n h e. refl;
@@ -110,14 +115,20 @@ each_eager (more d ds) h = both_true (is_eager_at d) (are_eager ds) h.0 (each_ea
 eager_node : (k : Kind) (ds : Data) (t : Tree) → has_lazy k ≡ false → Each IsEager ds → limited k ds ≡ Ok t → is_eager t ≡ true
 eager_node k ds t is h made = subst (λ t. is_eager t ≡ true) (limited_made k ds t made).same (both_true (not (has_lazy k)) (are_eager ds) (ap not is) (each_eager ds h))
 
-neither : (a b : Bool) → not (a || b) ≡ true → a ≡ false
+neither : (a b : Bool) → not (a || b) ≡ true → (a ≡ false) × (b ≡ false)
 neither true b e = absurd cc
-neither false b e = refl
+neither false true e = absurd cc
+neither false false e = (refl, refl)
+
+first_true : (a b : Bool) → (a && b) ≡ true → a ≡ true
+first_true true b e = refl
+first_true false b e = e
 
 eager_kept : Kept limited IsEager
 eager_kept = record {
-  node = λ k ds t is h made. eager_node k ds t (neither (has_lazy k) (same_kind k kinds.IdentifierExpression) is) h made;
-  named = λ k n t is h made. eager_node k (one (name n)) t is (h, tt) made;
+  node = λ k ds t is h made. eager_node k ds t (neither (has_lazy k) (is_scope_part (part k)) (first_true (is_common k) (not (same_kind k kinds.IdentifierExpression)) is)).0 h made;
+  scope = λ k t is made. eager_node k (empty_fields (shape_of k)) t is (empty_held IsEager refl refl (shape_of k)) made;
+  named = λ k n t is h made. eager_node k (one (name n)) t (neither (has_lazy k) (is_scope_part (part k)) is).0 (h, tt) made;
   shorthand = λ ds t u h made again. eager_node kinds.ShorthandProperty (one (child t)) u refl (eager_node kinds.IdentifierExpression ds t refl h made, tt) again;
   name_of = λ t n h e. refl;
   list = each_eager;
@@ -141,10 +152,6 @@ each_named p (more d ds) h = both_true (names_hold_at p d) (names_hold_in p ds) 
 
 named_node : (p : ℕ → Bool) (k : Kind) (ds : Data) (t : Tree) → Each (IsNamed p) ds → limited k ds ≡ Ok t → names_hold p t ≡ true
 named_node p k ds t h made = subst (λ t. names_hold p t ≡ true) (limited_made k ds t made).same (each_named p ds h)
-
-first_true : (a b : Bool) → (a && b) ≡ true → a ≡ true
-first_true true b e = refl
-first_true false b e = e
 
 no_name_here : {A : Type 0} (n : ℕ) → None ≡ Some n → A
 no_name_here n e = cc
@@ -172,6 +179,7 @@ name_of_tree p (branch k ds) n h e = name_in p (same_kind k kinds.IdentifierExpr
 names_kept : (p : ℕ → Bool) → Kept limited (IsNamed p)
 names_kept p = record {
   node = λ k ds t is h made. named_node p k ds t h made;
+  scope = λ k t is made. named_node p k (empty_fields (shape_of k)) t (empty_held (IsNamed p) refl refl (shape_of k)) made;
   named = λ k n t is h made. named_node p k (one (name n)) t (h, tt) made;
   shorthand = λ ds t u h made again. named_node p kinds.ShorthandProperty (one (child t)) u (named_node p kinds.IdentifierExpression ds t h made, tt) again;
   name_of = name_of_tree p;
@@ -208,6 +216,7 @@ shallow_node k ds t made = let r = limited_made k ds t made in subst (λ t. dept
 shallow_kept : Kept limited IsShallow
 shallow_kept = record {
   node = λ k ds t is h made. shallow_node k ds t made;
+  scope = λ k t is made. shallow_node k (empty_fields (shape_of k)) t made;
   named = λ k n t is h made. shallow_node k (one (name n)) t made;
   shorthand = λ ds t u h made again. shallow_node kinds.ShorthandProperty (one (child t)) u again;
   name_of = λ t n h e. omega arith;
@@ -221,3 +230,53 @@ shallow_kept = record {
 
 pub trees_are_shallow : (ls : List Leaf) (es : List Event) (t : Tree) → tree_of limited ls es ≡ Ok t → depth t ≤ 512
 trees_are_shallow ls es t made = of_tree limited IsShallow shallow_kept ls es t (no_names_in IsShallow (λ n. omega arith) ls) made
+
+-- no lazy kind, and scopes that say nothing
+abbrev IsPlain : Datum → Type 0
+IsPlain d = (bare_at d ≡ d) × (is_scope d ≡ true → bare_scope d ≡ d)
+
+one_plain : (d : Datum) (b : Bool) → is_scope d ≡ b → IsPlain d → cond b (bare_scope d) (bare_at d) ≡ d
+one_plain d true e h = h.1 e
+one_plain d false e h = h.0
+
+each_plain : (ds : Data) → Each IsPlain ds → bare_in ds ≡ ds
+each_plain none h = refl
+each_plain (more d ds) h = ap (λ e. more e (bare_in ds)) (one_plain d (is_scope d) refl h.0) ∙ ap (more d) (each_plain ds h.1)
+
+bare_branch : (k : Kind) (ds : Data) → has_lazy k ≡ false → Each IsPlain ds → bare (branch k ds) ≡ branch k ds
+bare_branch k ds is h = ap (λ k. branch k (bare_in ds)) (eager_is k (ap not is)) ∙ ap (branch k) (each_plain ds h)
+
+plain_branch : (k : Kind) (ds : Data) → is_common k ≡ true → Each IsPlain ds → IsPlain (child (branch k ds))
+plain_branch k ds is h = let no = neither (has_lazy k) (is_scope_part (part k)) is in (ap child (bare_branch k ds no.0 h), λ scope. let not_one = no.1 in cc)
+
+plain_node : (k : Kind) (ds : Data) (t : Tree) → is_common k ≡ true → Each IsPlain ds → limited k ds ≡ Ok t → IsPlain (child t)
+plain_node k ds t is h made = subst (λ t. IsPlain (child t)) (limited_made k ds t made).same (plain_branch k ds is h)
+
+no_scope : {A : Type 0} → false ≡ true → A
+no_scope e = cc
+
+plain_scope : (k : Kind) (t : Tree) → has_lazy k ≡ false → limited k (empty_fields (shape_of k)) ≡ Ok t → IsPlain (child t)
+plain_scope k t is made =
+    subst (λ t. IsPlain (child t)) (limited_made k (empty_fields (shape_of k)) t made).same
+    (ap child (bare_branch k (empty_fields (shape_of k)) is (empty_held IsPlain (refl, no_scope) (refl, no_scope) (shape_of k))), λ scope. refl)
+
+plain_kept : Kept limited IsPlain
+plain_kept = record {
+  node = λ k ds t is h made. plain_node k ds t (first_true (is_common k) (not (same_kind k kinds.IdentifierExpression)) is) h made;
+  scope = plain_scope;
+  named = λ k n t is h made. plain_node k (one (name n)) t is (h, tt) made;
+  shorthand = λ ds t u h made again. plain_node kinds.ShorthandProperty (one (child t)) u refl (plain_node kinds.IdentifierExpression ds t refl h made, tt) again;
+  name_of = λ t n h e. (refl, no_scope);
+  list = λ ds h. (ap listed (each_plain ds h), no_scope);
+  no_node = (refl, no_scope);
+  no_label = (refl, no_scope);
+  flags = λ b. (refl, no_scope);
+  wholes = λ n. (refl, no_scope);
+  choices = λ n. (refl, no_scope);
+}
+
+same_tree : (t u : Tree) → child t ≡ child u → t ≡ u
+same_tree t u e = cc
+
+pub trees_are_plain : (ls : List Leaf) (es : List Event) (t : Tree) → tree_of limited ls es ≡ Ok t → bare t ≡ t
+trees_are_plain ls es t made = same_tree (bare t) t (of_tree limited IsPlain plain_kept ls es t (no_names_in IsPlain (λ n. (refl, no_scope)) ls) made).0

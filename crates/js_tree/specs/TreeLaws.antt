@@ -7,6 +7,7 @@ use Rattle.js_machine.specs.declared.events.Event.{Event}
 use Rattle.js_machine.specs.Machine.{Accepted, Ends}
 use Rattle.js_tokens.specs.declared.kinds.Token.{Token}
 use Rattle.bast_schema.specs.Eager.{is_eager}
+use Rattle.scope_facts.specs.Bare.{bare}
 use Rattle.js_tree.specs.Image.{tree_of}
 use Rattle.bast_schema.specs.NamesHold.{names_hold}
 use Rattle.js_tree.specs.Names.{AreNamesIn}
@@ -21,6 +22,10 @@ TreesAreWhole = (ls : List Leaf) (es : List Event) (t : Tree) → tree_of limite
 -- no kind in it has a lazy field
 abbrev pub TreesAreEager : Type 0
 TreesAreEager = (ls : List Leaf) (es : List Event) (t : Tree) → tree_of limited ls es ≡ Ok t → is_eager t ≡ true
+
+-- it is its own plain tree: no scope in it has an entry or a flag set
+abbrev pub TreesArePlain : Type 0
+TreesArePlain = (ls : List Leaf) (es : List Event) (t : Tree) → tree_of limited ls es ≡ Ok t → bare t ≡ t
 
 -- its names are those of the tokens
 abbrev pub TreesHaveNames : Type 0

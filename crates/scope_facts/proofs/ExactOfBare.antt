@@ -19,7 +19,7 @@ use Rattle.scope_facts.specs.Exact.{exact, eval_name}
 use Rattle.scope_facts.proofs.Clean.{takes_scope, is_plain_list, all_plain_lists, plain_lists, child_typed, clean_in, fit_clean, item_no_scope, item_plain}
 use Rattle.scope_facts.proofs.NamesOfBare.{bound_bare, entries_bare, is_simple_bare}
 
-eager_is : (k : Kind) → not (has_lazy k) ≡ true → eager k ≡ k
+pub eager_is : (k : Kind) → not (has_lazy k) ≡ true → eager k ≡ k
 eager_is LazyFunctionDeclaration h = cc
 eager_is LazyMethod h = cc
 eager_is LazyGetter h = cc
