@@ -10,3 +10,4 @@ pub mod Raw
 pub mod Whole
 pub mod OneCut
 pub mod Longest
+pub mod Faults

@@ -14,6 +14,7 @@ use Rattle.js_tokens.specs.Tokens.{AreTokens}
 use Rattle.js_tokens.specs.declared.kinds.Mark.{Mark}
 use Rattle.js_tokens.specs.declared.kinds.Token.{Token}
 use Rattle.js_tokens.specs.declared.kinds.TokenFault.{TokenFault}
+use Rattle.js_tokens.specs.declared.kinds.TokenFault.TheVariants as faults
 use Rattle.js_tokens.specs.declared.scan.Item.TheVariants as items
 
 -- a text has at most one list of tokens, and at most one first fault
@@ -29,6 +30,10 @@ HasNotBoth = (text : List ℕ) (ts : List Token) (f : TokenFault) → AreTokens 
 
 abbrev pub HasEither : Type 0
 HasEither = (text : List ℕ) → ((ts : List Token) × AreTokens text ts) ⊎ ((f : TokenFault) × FirstFault text f)
+
+-- a first fault is no want of memory
+abbrev pub FaultsAreOfTheText : Type 0
+FaultsAreOfTheText = (text : List ℕ) (f : TokenFault) → FirstFault text f → f ≡ faults.Memory → ⊥
 
 -- from a place on the text is made of gaps and these tokens: nothing is left out, and nothing stands in two of them
 pub data Tiles : List ℕ → ℕ → List Token → Type 0 where

@@ -1,6 +1,6 @@
 //! Laws of the cut of a text. Each function does nothing: its clause is the law.
 
-ghost use Rattle.js_tokens.specs.Laws.{HasOneCut, HasOneFault, HasNotBoth, HasEither, AreTheText, IsLongestName, IsLongestMark, IsWholeNumber};
+ghost use Rattle.js_tokens.specs.Laws.{HasOneCut, HasOneFault, HasNotBoth, HasEither, FaultsAreOfTheText, AreTheText, IsLongestName, IsLongestMark, IsWholeNumber};
 
 /// A text has at most one list of tokens.
 pub fn text_has_one_cut()
@@ -20,6 +20,11 @@ pub fn text_has_not_both()
 /// A text has tokens or a first fault.
 pub fn text_has_either()
     ensures { HasEither }
+{}
+
+/// The first fault of a text is no want of memory.
+pub fn faults_are_of_the_text()
+    ensures { FaultsAreOfTheText }
 {}
 
 /// The tokens of a text and the gaps between them are the text.
