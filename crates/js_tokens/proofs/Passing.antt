@@ -166,7 +166,7 @@ string_step-on quote c cs at s =
     (either (c == 92) (bind (escape-moves cs (at + len_utf8 c) at) (λ x. whole-moves x at))
     (ok {x = (Char c, behind c cs at)} none)))
 
-string_step-moves : (quote : ℕ) (cs : List ℕ) (at s : ℕ) → Moves cs at (string_step quote cs at s)
+pub string_step-moves : (quote : ℕ) (cs : List ℕ) (at s : ℕ) → Moves cs at (string_step quote cs at s)
 string_step-moves quote [] at s = err
 string_step-moves quote (c ∷ cs) at s = after (more none) (string_step-on quote c cs at s)
 

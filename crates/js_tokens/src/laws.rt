@@ -1,6 +1,6 @@
 //! Laws of the cut of a text. Each function does nothing: its clause is the law.
 
-ghost use Rattle.js_tokens.specs.Laws.{HasOneCut, HasOneFault, HasNotBoth, HasEither, FaultsAreOfTheText, AreTheText, IsLongestName, IsLongestMark, IsWholeNumber};
+ghost use Rattle.js_tokens.specs.Laws.{HasOneCut, HasOneFault, HasNotBoth, HasEither, FaultsAreOfTheText, AreTheText, ValuesAreTexts, RawTextsAreTexts, IsLongestName, IsLongestMark, IsWholeNumber};
 
 /// A text has at most one list of tokens.
 pub fn text_has_one_cut()
@@ -45,4 +45,10 @@ pub fn punctuator_is_longest()
 /// What could go on with a number does not follow one.
 pub fn number_is_whole()
     ensures { IsWholeNumber }
+{}
+
+/// The value of a string and the raw text of a token are texts.
+pub fn values_are_texts()
+    ensures value { ValuesAreTexts }
+    ensures raw { RawTextsAreTexts }
 {}

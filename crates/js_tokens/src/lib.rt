@@ -23,6 +23,7 @@ pub use kinds::{Mark, Piece, Token, TokenFault, TokenKind, Word};
 pub use laws::{
     faults_are_of_the_text, name_is_longest, number_is_whole, punctuator_is_longest,
     text_has_either, text_has_not_both, text_has_one_cut, text_has_one_fault, tokens_are_the_text,
+    values_are_texts,
 };
 pub use spelled::{directive_quote, template_spelled};
 pub use token_list::tokens;
