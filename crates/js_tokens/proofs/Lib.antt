@@ -7,6 +7,8 @@ pub mod Spans
 pub mod Cuts
 pub mod HeadMarks
 pub mod Raw
+pub mod Scalars
 pub mod Whole
 pub mod OneCut
 pub mod Longest
+pub mod Faults

@@ -158,21 +158,28 @@ whole-moves (escapes.Char c, p) s = ok none
 whole-moves (escapes.Nothing, p) s = ok none
 whole-moves (escapes.Half half, p) s = bind (pair-moves half p s) (λ x. ok none)
 
+-- what a step leaves, after its first character
+pub string_step-on : (quote c : ℕ) (cs : List ℕ) (at s : ℕ) → Moves cs (at + len_utf8 c) (string_step quote (c ∷ cs) at s)
+string_step-on quote c cs at s =
+    either (c == quote) (ok {x = (Closed false, behind c cs at)} none)
+    (either (is_newline c) (err {e = faults.EndedString s})
+    (either (c == 92) (bind (escape-moves cs (at + len_utf8 c) at) (λ x. whole-moves x at))
+    (ok {x = (Char c, behind c cs at)} none)))
+
 pub string_step-moves : (quote : ℕ) (cs : List ℕ) (at s : ℕ) → Moves cs at (string_step quote cs at s)
 string_step-moves quote [] at s = err
-string_step-moves quote (c ∷ cs) at s =
-    either (c == quote) (ok {x = (Closed false, behind c cs at)} (more none))
-    (either (is_newline c) (err {e = faults.EndedString s})
-    (either (c == 92) (after (more none) (bind (escape-moves cs (at + len_utf8 c) at) (λ x. whole-moves x at)))
-    (ok {x = (Char c, behind c cs at)} (more none))))
+string_step-moves quote (c ∷ cs) at s = after (more none) (string_step-on quote c cs at s)
 
-pub template_step-moves : (cs : List ℕ) (at s : ℕ) → Moves cs at (template_step cs at s)
+pub template_step-on : (c : ℕ) (cs : List ℕ) (at s : ℕ) → Moves cs (at + len_utf8 c) (template_step (c ∷ cs) at s)
+template_step-on c cs at s =
+    either (c == 96) (ok {x = (Closed false, behind c cs at)} none)
+    (either (c == 36 && first_is 123 cs) (ok {x = (Closed true, behind_first cs (at + len_utf8 c))} (first-passes cs (at + len_utf8 c)))
+    (either (c == 92) (bind (escape-moves cs (at + len_utf8 c) at) (λ x. ok {x = (Nothing, x.1)} none))
+    (ok {x = (Nothing, behind c cs at)} none)))
+
+template_step-moves : (cs : List ℕ) (at s : ℕ) → Moves cs at (template_step cs at s)
 template_step-moves [] at s = err
-template_step-moves (c ∷ cs) at s =
-    either (c == 96) (ok {x = (Closed false, behind c cs at)} (more none))
-    (either (c == 36 && first_is 123 cs) (ok {x = (Closed true, behind_first cs (at + len_utf8 c))} (more (first-passes cs (at + len_utf8 c))))
-    (either (c == 92) (after (more none) (bind (escape-moves cs (at + len_utf8 c) at) (λ x. ok {x = (Nothing, x.1)} none)))
-    (ok {x = (Nothing, behind c cs at)} (more none))))
+template_step-moves (c ∷ cs) at s = after (more none) (template_step-on c cs at s)
 
 on-moves : (next : Place → Result ((List ℕ × Bool) × Place) TokenFault) (x : Step × Place) → ((p : Place) → Moves p.chars p.at (next p)) → Moves x.1.chars x.1.at (steps_on next x)
 on-moves next (Closed m, p) h = ok none

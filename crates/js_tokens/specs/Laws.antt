@@ -1,6 +1,6 @@
 -- Laws of the cut of a text.
-use Rattle.std.specs.Prelude.{◌≡◌, ℕ, ◌^◌, ◌<◌, ◌≤◌, Bool, true, ◌⊎◌, List, [], ◌∷◌, length, take, Some, Ok}
-use Rattle.std.specs.Str.{chars}
+use Rattle.std.specs.Prelude.{◌≡◌, ℕ, ◌^◌, ◌<◌, ◌≤◌, Bool, true, ◌⊎◌, List, [], ◌∷◌, length, drop, take, Some, Ok}
+use Rattle.std.specs.Str.{IsUtf8, chars}
 use Rattle.std.specs.List.{All}
 use Rattle.js_tokens.specs.Place.{Place}
 use Rattle.js_tokens.specs.Classes.{is_start, ends_number}
@@ -11,9 +11,11 @@ use Rattle.js_tokens.specs.Scan.{scan_at}
 use Rattle.js_tokens.specs.Cut.{FirstFault, name_at}
 use Rattle.js_tokens.specs.Span.{Passes}
 use Rattle.js_tokens.specs.Tokens.{AreTokens}
+use Rattle.js_tokens.specs.Values.{value_at, raw_at}
 use Rattle.js_tokens.specs.declared.kinds.Mark.{Mark}
 use Rattle.js_tokens.specs.declared.kinds.Token.{Token}
 use Rattle.js_tokens.specs.declared.kinds.TokenFault.{TokenFault}
+use Rattle.js_tokens.specs.declared.kinds.TokenFault.TheVariants as faults
 use Rattle.js_tokens.specs.declared.scan.Item.TheVariants as items
 
 -- a text has at most one list of tokens, and at most one first fault
@@ -29,6 +31,10 @@ HasNotBoth = (text : List ℕ) (ts : List Token) (f : TokenFault) → AreTokens 
 
 abbrev pub HasEither : Type 0
 HasEither = (text : List ℕ) → ((ts : List Token) × AreTokens text ts) ⊎ ((f : TokenFault) × FirstFault text f)
+
+-- a first fault is no want of memory
+abbrev pub FaultsAreOfTheText : Type 0
+FaultsAreOfTheText = (text : List ℕ) (f : TokenFault) → FirstFault text f → f ≡ faults.Memory → ⊥
 
 -- from a place on the text is made of gaps and these tokens: nothing is left out, and nothing stands in two of them
 pub data Tiles : List ℕ → ℕ → List Token → Type 0 where
@@ -50,3 +56,10 @@ IsLongestMark = (cs : List ℕ) (found : List ℕ × Mark) → mark_among punctu
 -- what could go on with a number does not follow one, and its value is below 2^53
 abbrev pub IsWholeNumber : Type 0
 IsWholeNumber = (c : ℕ) (p q : Place) (start value : ℕ) → number_at c p start ≡ Ok (value, q) → (ends_number q.chars ≡ true) × (value < 2 ^ 53)
+
+-- the value of a string that begins within a text is a text, and so is the raw text of a token
+abbrev pub ValuesAreTexts : Type 0
+ValuesAreTexts = (text : List ℕ) (from : ℕ) → IsUtf8 (drop from text) → IsUtf8 (value_at text from)
+
+abbrev pub RawTextsAreTexts : Type 0
+RawTextsAreTexts = (text : List ℕ) (t : Token) → IsUtf8 (drop t.from text) → IsUtf8 (raw_at text t)

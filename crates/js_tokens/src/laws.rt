@@ -1,6 +1,6 @@
 //! Laws of the cut of a text and of spellings. Each function does nothing: its clause is the law.
 
-ghost use Rattle.js_tokens.specs.Laws.{HasOneCut, HasOneFault, HasNotBoth, HasEither, AreTheText, IsLongestName, IsLongestMark, IsWholeNumber};
+ghost use Rattle.js_tokens.specs.Laws.{HasOneCut, HasOneFault, HasNotBoth, HasEither, FaultsAreOfTheText, AreTheText, ValuesAreTexts, RawTextsAreTexts, IsLongestName, IsLongestMark, IsWholeNumber};
 ghost use Rattle.js_tokens.specs.Spelling.{SpellingsAreRead};
 
 /// A text has at most one list of tokens.
@@ -21,6 +21,11 @@ pub fn text_has_not_both()
 /// A text has tokens or a first fault.
 pub fn text_has_either()
     ensures { HasEither }
+{}
+
+/// The first fault of a text is no want of memory.
+pub fn faults_are_of_the_text()
+    ensures { FaultsAreOfTheText }
 {}
 
 /// The tokens of a text and the gaps between them are the text.
@@ -46,4 +51,10 @@ pub fn number_is_whole()
 /// A punctuator or a reserved word is read where its spelling stands.
 pub fn spellings_are_read()
     ensures { SpellingsAreRead }
+{}
+
+/// The value of a string and the raw text of a token are texts.
+pub fn values_are_texts()
+    ensures value { ValuesAreTexts }
+    ensures raw { RawTextsAreTexts }
 {}

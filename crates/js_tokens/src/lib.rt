@@ -21,8 +21,9 @@ mod words;
 
 pub use kinds::{Mark, Piece, Token, TokenFault, TokenKind, Word};
 pub use laws::{
-    name_is_longest, number_is_whole, punctuator_is_longest, spellings_are_read, text_has_either,
-    text_has_not_both, text_has_one_cut, text_has_one_fault, tokens_are_the_text,
+    faults_are_of_the_text, name_is_longest, number_is_whole, punctuator_is_longest,
+    spellings_are_read, text_has_either, text_has_not_both, text_has_one_cut, text_has_one_fault,
+    tokens_are_the_text, values_are_texts,
 };
 pub use spelled::{directive_quote, template_spelled};
 pub use token_list::tokens;
