@@ -22,6 +22,7 @@ pub mod Runs
 pub mod SameTree
 pub mod Scripts
 pub mod Single
+pub mod Sound
 pub mod Spells
 pub mod Spending
 pub mod Values

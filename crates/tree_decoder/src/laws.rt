@@ -1,5 +1,6 @@
 ghost use Rattle.tree_decoder.specs.Left.{AreDue, AreOfTree};
 ghost use Rattle.tree_decoder.specs.OneTree.{IsOneTree, ScriptsAreOne};
+ghost use Rattle.tree_decoder.specs.Outer.{TreeRangesAreSound};
 ghost use Rattle.tree_decoder.specs.Row.{IsFirstBehindRow};
 ghost use Rattle.tree_decoder.specs.SameTree.{AtomsAreOfOneTree};
 ghost use Rattle.tree_decoder.specs.Script.{SomeScriptIsSpelled};
@@ -43,4 +44,10 @@ pub fn some_script_is_spelled()
 /// of names and the places of windows. It does nothing: its clause is the law.
 pub fn atoms_are_of_one_tree()
     ensures { AtomsAreOfOneTree }
+{}
+
+/// In each container of bytes that is no longer than a file may be, the range of the tree can be read. It does nothing: its
+/// clause is the law.
+pub fn tree_ranges_are_sound()
+    ensures { TreeRangesAreSound }
 {}

@@ -1,11 +1,13 @@
-ghost use Rattle.std.specs.Prelude.{◌≡◌, ◌≤◌, ◌<◌, ◌+◌, ◌-◌, ◌++◌, ◌∷◌, [], ℕ, Bool, length, true, OnOk, IfErr};
+ghost use Rattle.std.specs.Prelude.{◌≡◌, ◌≤◌, ◌<◌, ◌+◌, ◌-◌, ◌++◌, ◌∷◌, [], ℕ, Bool, length, true, OnOk, IfOk, IfErr, IsTrue};
 ghost use Rattle.bast_base.specs.declared.errors.Halt.{Halt};
+ghost use Rattle.bast_schema.specs.Counts.{size};
 ghost use Rattle.bast_schema.specs.Held.{Held};
 ghost use Rattle.bast_schema.specs.Tree.{Tree, item_type};
+ghost use Rattle.container.specs.Named.{named};
 ghost use Rattle.tree_decoder.specs.Dues.{below, times};
 ghost use Rattle.tree_decoder.specs.Found.{Reads, ReadsAll, Spends, SpendsAll, Spent};
 ghost use Rattle.tree_decoder.specs.Numbers.{is_leaf};
-ghost use Rattle.tree_decoder.specs.Range.{range, range_of, IsSound};
+ghost use Rattle.tree_decoder.specs.Range.{range, range_of, held, IsSound};
 ghost use Rattle.tree_decoder.specs.Script.{ReadsScript, script_outcome};
 ghost use Rattle.tree_decoder.specs.Spelt.{IsSpelt, IsThatTree, NoFault};
 
@@ -210,7 +212,8 @@ fn items<L>(
 /// The script that a range of bytes spells over two tables. Lazy fields are left as windows, whose bytes are not looked at.
 ///
 /// The fault is the first: that of the first atom that does not stand where it is due, or `Trailing` at the first byte
-/// that is left. Places count from the tape's start.
+/// that is left. Places count from the tape's start. The tree has no more values than the range has bytes, where a window is
+/// one value, and each of its names is the number of a text.
 pub fn read_tree<L>(
     alloc: Global,
     tape: &Tape<L>,
@@ -225,6 +228,8 @@ pub fn read_tree<L>(
     ensures reads { ReadsScript (range kinds.now strings.now tape.now to) from result }
     ensures only { (h : Held) (t : Tree) → IsSpelt (range kinds.now strings.now tape.now to) from h t → NoFault result }
     ensures same { (h : Held) (t : Tree) → IsSpelt (range kinds.now strings.now tape.now to) from h t → IsThatTree (range kinds.now strings.now tape.now to) h t result }
+    ensures size { IfOk result (λ t. size t ≤ to - from) }
+    ensures named { IfOk result (λ t. IsTrue (named (held (range kinds.now strings.now tape.now to)) t)) }
     ensures cost { Spent (script_outcome (range kinds.now strings.now tape.now to) from).windows from to steps.old steps.new }
     ensures later { steps.old ≤ steps.new }
 {
@@ -253,6 +258,8 @@ fn whole_script<L>(
     ensures reads { ReadsScript (range_of input.now) at result }
     ensures only { (h : Held) (t : Tree) → IsSpelt (range_of input.now) at h t → NoFault result }
     ensures same { (h : Held) (t : Tree) → IsSpelt (range_of input.now) at h t → IsThatTree (range_of input.now) h t result }
+    ensures size { IfOk result (λ t. size t ≤ input.now.end - at) }
+    ensures named { IfOk result (λ t. IsTrue (named (held (range_of input.now)) t)) }
     ensures cost { Spent (script_outcome (range_of input.now) at).windows at input.now.end steps.old steps.new }
     ensures later { steps.old ≤ steps.new }
 {

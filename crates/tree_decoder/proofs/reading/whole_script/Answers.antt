@@ -9,7 +9,7 @@ use Rattle.container.specs.Answers.{fault}
 use Rattle.tree_decoder.specs.Range.{range_of}
 use Rattle.tree_decoder.specs.Script.{script}
 use Rattle.tree_decoder.proofs.Scripts.{script_stands, bytes_left_over, script_spends, only_memory, only_failed}
-use Rattle.tree_decoder.proofs.Whole.{one_script}
+use Rattle.tree_decoder.proofs.Whole.{named_where_stands, one_script, script_size}
 use Rattle.tree_decoder.proofs.reading.whole_script.Goals as goal
 
 pub returns-then-next-input-clause-reads : goal.returns-then-next-input-clause-reads
@@ -38,4 +38,10 @@ returns-in_err-found-clause-only g c h t spelt =
     rw (e.1, e.2) (only_failed (range_of c.args.input.now) c.args.at c.in_err-found.field-0.0 c.requires.sound c.requires.at c.in_err-found.ensures.reads h t spelt)
 
 pub returns-clause-same : goal.returns-clause-same
-returns-clause-same g c h t spelt whole_spelt whole_read = one_script (range_of c.args.input.now) c.args.at h c.in-Node.node t (returns-clause-reads g c) spelt whole_read whole_spelt
+returns-clause-same g c h t spelt = one_script (range_of c.args.input.now) c.args.at h c.in-Node.node t (returns-clause-reads g c) spelt
+
+pub returns-clause-size : goal.returns-clause-size
+returns-clause-size g c = script_size (range_of c.args.input.now) c.args.at c.in-Node.node c.requires.sound c.requires.at (returns-clause-reads g c)
+
+pub returns-clause-named : goal.returns-clause-named
+returns-clause-named g c = named_where_stands (range_of c.args.input.now) c.in-Node.node (returns-clause-reads g c).stands
