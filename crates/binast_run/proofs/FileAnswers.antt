@@ -11,8 +11,8 @@ use Rattle.tree_decoder.specs.FileLaws.{IsSoundFile}
 use Rattle.tree_decoder.specs.LazyKinds.{first_lazy}
 use Rattle.tree_decoder.specs.Reading.{first_fault, IsTreeOf}
 use Rattle.tree_decoder.specs.WholeReading.{Whole, faulty, not_yet, violated, whole, IsWhole, Decodes}
-use Rattle.tree_decoder.specs.declared.decode.ReadRefusal.{ReadRefusal}
-use Rattle.tree_decoder.specs.declared.decode.ReadRefusal.TheVariants as refusals
+use Rattle.tree_decoder.specs.declared.files.ReadRefusal.{ReadRefusal}
+use Rattle.tree_decoder.specs.declared.files.ReadRefusal.TheVariants as refusals
 use Rattle.tree_decoder.proofs.EveryFile.{sound_is_whole, whole_is_sound}
 use Rattle.tree_decoder.proofs.WholeReadings.{one_whole}
 use Rattle.violations.specs.Violations.{name_in}

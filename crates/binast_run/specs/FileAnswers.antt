@@ -7,8 +7,8 @@ use Rattle.binast_run.specs.SourceLines.{violation_text}
 use Rattle.binast_run.specs.Status.{line}
 use Rattle.scope_facts.specs.declared.context.Violation.{Violation}
 use Rattle.tree_decoder.specs.WholeReading.{Whole, faulty, not_yet, violated, whole, IsWhole}
-use Rattle.tree_decoder.specs.declared.decode.ReadRefusal.{ReadRefusal}
-use Rattle.tree_decoder.specs.declared.decode.ReadRefusal.TheVariants as refusals
+use Rattle.tree_decoder.specs.declared.files.ReadRefusal.{ReadRefusal}
+use Rattle.tree_decoder.specs.declared.files.ReadRefusal.TheVariants as refusals
 use Rattle.violations.specs.Violations.{name_in}
 
 -- the line of a file of whose tree a rule does not hold, with the text of the violation's name

@@ -1,5 +1,5 @@
 -- Every file has a whole reading, and which files are read as a tree.
-use Rattle.std.proofs.Common.{◌≡◌, ℕ, ◌<◌, ◌≤◌, ◌^◌, ◌&&◌, List, length, Option, Some, None, Result, Ok, Err, refl, subst, sym, ap, ◌∙◌, arith}
+use Rattle.std.proofs.Common.{◌≡◌, ℕ, ◌<◌, ◌≤◌, ◌^◌, ◌&&◌, true, List, length, Option, Some, None, Result, Ok, Err, refl, subst, sym, ap, ◌∙◌, arith}
 use Rattle.std.specs.List.{All}
 use Rattle.bast_base.specs.declared.errors.FormatFault.{FormatFault}
 use Rattle.bast_schema.specs.Counts.{is_whole}
@@ -26,11 +26,12 @@ use Rattle.tree_decoder.specs.Range.{IsSound, held}
 use Rattle.tree_decoder.specs.Reading.{fault_in, first_fault, tree_fault, IsFileOfScript, IsTreeOf}
 use Rattle.tree_decoder.specs.WholeReading.{Whole, faulty, not_yet, violated, whole, IsWhole}
 use Rattle.tree_decoder.proofs.EagerWhole.{eager_is_whole}
-use Rattle.tree_decoder.proofs.InGrammar.{in_grammar-accepted, read-in_grammar, sound_range}
+use Rattle.tree_decoder.proofs.InGrammar.{in_grammar-accepted, read-in_grammar}
 use Rattle.tree_decoder.proofs.LazyAtoms.{eager_read}
 use Rattle.tree_decoder.proofs.OneFile.{file_of, one_tree_in_file}
 use Rattle.tree_decoder.proofs.OneTable.{one_over}
 use Rattle.tree_decoder.proofs.SameTree.{same_tree}
+use Rattle.tree_decoder.proofs.Sound.{range_sound}
 use Rattle.tree_decoder.proofs.Values.{script_there}
 use Rattle.violations.specs.Violations.{first_violation, script}
 use Rattle.violations.proofs.Least.{first_violation_is_least}
@@ -43,11 +44,11 @@ AreBytes bytes = All (λ byte. byte < 256) bytes
 
 -- what the tree of a file comes to
 by_violation : (bytes : List ℕ) (texts : Table) (t : Tree) (o : Option Violation) → IsTreeOf bytes texts t → first_lazy t ≡ None → first_violation texts script t ≡ o → (w : Whole) × IsWhole bytes w
-by_violation bytes texts t (Some v) is none found = (violated texts v, t, is, none, found)
-by_violation bytes texts t None is none found = (whole texts t, is, none, found)
+by_violation bytes texts t (Some v) is none found = (violated texts v, (t, is, none, found))
+by_violation bytes texts t None is none found = (whole texts t, (is, none, found))
 
 by_lazy : (bytes : List ℕ) (texts : Table) (t : Tree) (o : Option ℕ) → IsTreeOf bytes texts t → first_lazy t ≡ o → (w : Whole) × IsWhole bytes w
-by_lazy bytes texts t (Some n) is found = (not_yet n, texts, t, is, found)
+by_lazy bytes texts t (Some n) is found = (not_yet n, (texts, t, is, found))
 by_lazy bytes texts t None is none = by_violation bytes texts t (first_violation texts script t) is none refl
 
 -- the script that is spelled where no fault is found
@@ -55,7 +56,7 @@ pub file_there : (bytes : List ℕ) (l : Layout) → length bytes ≤ 8388608 �
 file_there bytes l short small is none =
     let made = layout_is_container bytes l small is in
     let r = tree_range bytes l in
-    let found = script_there r l.from (sound_range bytes l short small made) made.order none in
+    let found = script_there r l.from (range_sound bytes l short small made) made.order none in
     (found.0, record { container = is; script = found.1 })
 
 by_fault : (bytes : List ℕ) (l : Layout) (o : Option FormatFault) → length bytes ≤ 8388608 → AreBytes bytes → layout_of bytes ≡ Ok l → tree_fault bytes l ≡ o → (w : Whole) × IsWhole bytes w

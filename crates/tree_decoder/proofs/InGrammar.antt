@@ -18,6 +18,7 @@ use Rattle.tree_decoder.specs.Outer.{tree_range}
 use Rattle.tree_decoder.specs.Range.{IsSound}
 use Rattle.tree_decoder.specs.Spelt.{IsSpelt}
 use Rattle.tree_decoder.proofs.Scripts.{script_accepted}
+use Rattle.tree_decoder.proofs.Sound.{texts_within}
 use Rattle.tree_decoder.proofs.Whole.{spelt_by_itself, unnested_script}
 use Rattle.tree_decoder.specs.Reading.{fault_in, first_fault, IsFileOfScript}
 
@@ -41,22 +42,6 @@ read-in_grammar bytes l t few small file whole =
       typed_whole = both (typed t && is_whole t) (is_unnested t) (both (typed t) (is_whole t) file.script.typed whole) (unnested_script r l.from t file.script whole);
       shallow = file.script.shallow;
     }, refl)
-
--- a table has no more entries than bytes
-texts_within : (s : Tables) (tree : List ℕ) → length s.texts ≤ length (container s tree)
-unfolding container
-texts_within s tree = grind (arith, common_steps, few_entries entry_bytes s.texts)
-
--- the range of a container's tree
-pub sound_range : (bytes : List ℕ) (l : Layout) → length bytes ≤ 8388608 → All (λ byte. byte < 256) bytes → IsContainer bytes l → IsSound (tree_range bytes l)
-sound_range bytes l short small made = record {
-  within = made.within;
-  short = short;
-  bytes = small;
-  kinds = made.distinct_kinds;
-  texts = made.distinct_texts;
-  few = omega (arith, texts_within (tables l) (slice_range bytes l.from l.to), ap length made.spelling);
-}
 
 -- a file in the grammar has no fault
 pub in_grammar-accepted : (bytes : List ℕ) (h : Held) (t : Tree) → length bytes ≤ 8388608 → All (λ byte. byte < 256) bytes → InFile bytes h t → first_fault bytes ≡ None

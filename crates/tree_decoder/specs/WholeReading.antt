@@ -3,8 +3,8 @@ use Rattle.std.specs.Prelude.{◌≡◌, ℕ, List, Option, Some, None, Result, 
 use Rattle.bast_base.specs.declared.errors.FormatFault.{FormatFault}
 use Rattle.bast_schema.specs.Tree.{Tree}
 use Rattle.scope_facts.specs.declared.context.Violation.{Violation}
-use Rattle.tree_decoder.specs.declared.decode.ReadRefusal.{ReadRefusal}
-use Rattle.tree_decoder.specs.declared.decode.ReadRefusal.TheVariants as refusal
+use Rattle.tree_decoder.specs.declared.files.ReadRefusal.{ReadRefusal}
+use Rattle.tree_decoder.specs.declared.files.ReadRefusal.TheVariants as refusal
 use Rattle.tree_decoder.specs.LazyKinds.{first_lazy}
 use Rattle.tree_decoder.specs.Reading.{first_fault, IsTreeOf}
 use Rattle.violations.specs.Violations.{first_violation, name_in, script}

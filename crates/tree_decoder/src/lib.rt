@@ -3,8 +3,8 @@
 #![tactic(auto)]
 
 mod cursor;
-mod decode;
 mod file_laws;
+mod files;
 mod laws;
 mod lazy_kinds;
 mod leaves;
@@ -13,12 +13,12 @@ mod reading;
 #[cfg(test)]
 mod tests;
 
-pub use decode::{ReadRefusal, decode};
 pub use file_laws::{
     files_are_read_as_one_tree, files_are_read_exactly, files_have_one_reading,
     files_have_one_tree, files_in_grammar_have_no_fault, files_that_are_read_are_in_grammar,
     files_without_lazy_kinds_are_read_so,
 };
+pub use files::{ReadRefusal, decode};
 pub use laws::{
     atoms_are_due, atoms_are_of_one_tree, fault_is_first_behind_row, one_tree_is_spelled,
     only_trees_leave_nothing_due, scripts_are_one, some_script_is_spelled, tree_ranges_are_sound,
