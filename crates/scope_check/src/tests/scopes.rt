@@ -2,7 +2,7 @@ use super::*;
 use crate::entries::judge_scope;
 use bast_base::NameId;
 use bast_schema::{Kind, Node, Value, Values, values_left};
-use scope_facts::put_bound;
+use scope_facts::with_bound;
 use std::alloc::Global;
 use std::test::Fail;
 
@@ -103,8 +103,7 @@ fn rest(alloc: Global, number: u32) -> Result<Value, Fail> {
 /// What is found at the scope that is a node's first value.
 fn found(alloc: Global, owner: &Node) -> Option<Finding> {
     let _left = values_left(owner, 1000)?;
-    let mut names = Vec::new(alloc);
-    put_bound(&mut names, owner.fields()).ok()?;
+    let names = with_bound(Vec::new(alloc), owner.fields()).ok()?;
     match owner.fields() {
         [Value::Node(scope), after @ ..] => judge_scope(alloc, scope, &names, after).ok(),
         _ => None,
