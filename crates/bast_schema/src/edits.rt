@@ -1,4 +1,4 @@
-ghost use Rattle.std.specs.Prelude.{◌≡◌, MatchOption, OnOk, Ok};
+ghost use Rattle.std.specs.Prelude.{◌≡◌, MatchOption, OnErr, OnOk, Ok};
 ghost use Rattle.bast_schema.specs.View.{datum, data_of};
 ghost use Rattle.bast_schema.specs.Tree.{branch, none, more};
 ghost use Rattle.bast_schema.specs.Made.{node_of};
@@ -20,7 +20,8 @@ pub fn take_first(values: &mut Vec<Value>) -> Option<Value>
 
 /// Puts a value before the values of a node, in time linear in their number.
 pub fn put_first(values: &mut Vec<Value>, value: Value) -> Result<(), Memory>
-    ensures { OnOk result (data_of values.new.items ≡ more (datum value) (data_of values.old.items)) }
+    ensures first { OnOk result (data_of values.new.items ≡ more (datum value) (data_of values.old.items)) }
+    ensures unchanged { OnErr result (values.new.items ≡ values.old.items) }
 {
     values.insert(0, value)?;
     Ok(())

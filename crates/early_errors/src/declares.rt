@@ -7,8 +7,8 @@ use crate::kinds::{Role, role_of};
 use bast_base::Memory;
 use bast_schema::{UNARY_DELETE, Value};
 use scope_facts::{
-    Declared, Form, NameKind, are_simple, bound_name, first_name_of, form_of, put_bound,
-    put_bound_below, put_items, put_lexicals_in, put_tops_in, put_vars_in,
+    Declared, Form, NameKind, are_simple, bound_name, first_name_of, form_of, with_bound,
+    with_bound_below, with_items, with_lexicals_in, with_tops_in, with_vars_in,
 };
 use std::alloc::Global;
 
@@ -59,9 +59,7 @@ fn var_among(alloc: Global, declared: &[Declared]) -> Result<Vec<u32>, Memory>
 fn declared_by(alloc: Global, fields: &[Value]) -> Result<Vec<Declared>, Memory>
     ensures { IfOk result (λ r. r.items ≡ tops_in (behind (data_of fields.now))) }
 {
-    let mut declared = Vec::new(alloc);
-    put_tops_in(alloc, &mut declared, values_behind(fields))?;
-    Ok(declared)
+    with_tops_in(alloc, Vec::new(alloc), values_behind(fields))
 }
 
 /// The lexical names of a holder or of a `for` head, in order.
@@ -71,8 +69,7 @@ pub(crate) fn lexical_names(alloc: Global, role: Role, fields: &[Value]) -> Resu
     match role {
         Role::Script | Role::Contents => lexical_among(alloc, &declared_by(alloc, fields)?),
         Role::Block | Role::For => {
-            let mut declared = Vec::new(alloc);
-            put_lexicals_in(alloc, &mut declared, fields)?;
+            let declared = with_lexicals_in(alloc, Vec::new(alloc), fields)?;
             lexical_among(alloc, &declared)
         }
         _ => Ok(Vec::new(alloc)),
@@ -85,11 +82,7 @@ pub(crate) fn var_names(alloc: Global, role: Role, fields: &[Value]) -> Result<V
 {
     match role {
         Role::Script | Role::Contents => var_among(alloc, &declared_by(alloc, fields)?),
-        Role::Block | Role::For => {
-            let mut names = Vec::new(alloc);
-            put_vars_in(&mut names, fields)?;
-            Ok(names)
-        }
+        Role::Block | Role::For => with_vars_in(Vec::new(alloc), fields),
         _ => Ok(Vec::new(alloc)),
     }
 }
@@ -98,16 +91,11 @@ pub(crate) fn var_names(alloc: Global, role: Role, fields: &[Value]) -> Result<V
 fn names_of_list(alloc: Global, fields: &[Value]) -> Result<Vec<u32>, Memory>
     ensures { IfOk result (λ r. r.items ≡ list_names (data_of fields.now)) }
 {
-    let mut names = Vec::new(alloc);
     match fields {
-        [] => Ok(names),
+        [] => Ok(Vec::new(alloc)),
         [first, rest @ ..] => match first {
-            Value::List(items) => {
-                put_items(&mut names, items.as_slice())?;
-                put_bound(&mut names, rest)?;
-                Ok(names)
-            }
-            _ => Ok(names),
+            Value::List(items) => with_bound(with_items(Vec::new(alloc), items.as_slice())?, rest),
+            _ => Ok(Vec::new(alloc)),
         },
     }
 }
@@ -119,11 +107,7 @@ fn names_of_parameters(alloc: Global, parameters: &Value) -> Result<Vec<u32>, Me
     match parameters {
         Value::Node(node) => match form_of(node.kind()) {
             Form::Parameters => names_of_list(alloc, node.fields()),
-            _ => {
-                let mut names = Vec::new(alloc);
-                put_bound_below(&mut names, parameters)?;
-                Ok(names)
-            }
+            _ => with_bound_below(Vec::new(alloc), parameters),
         },
         _ => Ok(Vec::new(alloc)),
     }
@@ -167,13 +151,9 @@ pub(crate) fn has_simple_parameters(role: Role, fields: &[Value]) -> bool
 pub(crate) fn caught_names(alloc: Global, role: Role, fields: &[Value]) -> Result<Vec<u32>, Memory>
     ensures { IfOk result (λ r. r.items ≡ caught role (data_of fields.now)) }
 {
-    let mut names = Vec::new(alloc);
     match role {
-        Role::Catch => {
-            put_bound(&mut names, fields)?;
-            Ok(names)
-        }
-        _ => Ok(names),
+        Role::Catch => with_bound(Vec::new(alloc), fields),
+        _ => Ok(Vec::new(alloc)),
     }
 }
 
@@ -194,9 +174,7 @@ fn values_of_first(values: &[Value]) -> &[Value]
 fn declared_names(alloc: Global, fields: &[Value]) -> Result<Vec<u32>, Memory>
     ensures { IfOk result (λ r. r.items ≡ declared_names (data_of fields.now)) }
 {
-    let mut names = lexical_names(alloc, Role::Block, fields)?;
-    put_vars_in(&mut names, fields)?;
-    Ok(names)
+    with_vars_in(lexical_names(alloc, Role::Block, fields)?, fields)
 }
 
 /// The names that the block of a catch clause declares.

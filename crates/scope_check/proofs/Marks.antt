@@ -1,7 +1,8 @@
 -- What the entries that aren't captured make of the covers of names.
-use Rattle.std.proofs.Common.{ℕ, List, [], ◌∷◌, ◌≡◌, Bool, true, false, refl, ap, sym, ◌&&◌, ◌||◌, not, if◌then◌else◌, Option, Some, ◌∙◌}
+use Rattle.std.proofs.Common.{ℕ, List, [], ◌∷◌, map, ◌≡◌, Bool, true, false, refl, ap, sym, ◌&&◌, ◌||◌, not, if◌then◌else◌, Option, Some, ◌∙◌}
 use Rattle.scope_facts.specs.declared.context.FactName.{FactName}
 use Rattle.scope_facts.specs.declared.covers.Cover.{Cover}
+use Rattle.scope_facts.specs.Covers.{has_name}
 use Rattle.scope_check.specs.Covers.{has_fact, all_caught, is_fact, marked, entered}
 
 -- a cover inside so many functions, captured or not
@@ -63,3 +64,11 @@ marked_by now x false o fs e = marked_none now x o fs e
 -- both passes over the entries of a scope
 pub entered_is : (now x : ℕ) (o p q : Option Cover) (fs : List FactName) → p ≡ (if has_fact x fs then Some (record { function = now; captured = true }) else o) → q ≡ marked now fs x p → q ≡ entered now fs x o
 entered_is now x o p q fs e g = g ∙ ap (marked now fs x) e ∙ marked_by now x (has_fact x fs) o fs refl
+
+-- the names of entries, each as a number
+fact_named : (fs : List FactName) (x : ℕ) → has_name x (map (λ (f : FactName). f.name.0) fs) ≡ has_fact x fs
+fact_named [] x = refl
+fact_named (f ∷ fs) x = ap (λ b. is_fact x f || b) (fact_named fs x)
+
+pub named_facts : (ns : List ℕ) (fs : List FactName) (x : ℕ) → ns ≡ map (λ (f : FactName). f.name.0) fs → has_name x ns ≡ has_fact x fs
+named_facts ns fs x e = ap (has_name x) e ∙ fact_named fs x

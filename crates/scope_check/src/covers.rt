@@ -1,4 +1,4 @@
-ghost use Rattle.std.specs.Prelude.{◌≡◌, ◌++◌, IfOk, OnOk, ℕ, Some, true, Option, if◌then◌else◌};
+ghost use Rattle.std.specs.Prelude.{◌≡◌, ◌++◌, IfOk, OnOk, ℕ, Option, map, if◌then◌else◌};
 ghost use Rattle.bast_schema.specs.Tree.{child};
 ghost use Rattle.bast_schema.specs.View.{datum, data_of};
 ghost use Rattle.scope_facts.specs.Covers.{cover_of, restored};
@@ -7,31 +7,18 @@ ghost use Rattle.scope_check.specs.Covers.{entered, has_fact, marked, facts_at, 
 
 use bast_base::{Memory, NameId};
 use bast_schema::{Node, Value};
-use scope_facts::{Cover, FactName, Shadow, find_cover, first_name_of, put_cover};
+use scope_facts::{Cover, FactName, Shadow, first_name_of, put_cover};
 use std::alloc::Global;
 
-/// Covers the names of entries as if all were captured, and keeps what covered them before.
-fn put_facts(
-    alloc: Global,
-    covers: &mut Vec<Option<Cover>>,
-    now: u32,
-    facts: &[FactName],
-) -> Result<Vec<Shadow>, Memory>
-    ensures covers { OnOk result ((x : ℕ) → cover_of covers.new.items x ≡ (if has_fact x facts.now then Some (record { function = now; captured = true }) else cover_of covers.old.items x)) }
-    ensures shadows { IfOk result (λ r. (x : ℕ) (o : Option Cover) → restored r.items x o ≡ (if has_fact x facts.now then cover_of covers.old.items x else o)) }
+/// The names of entries.
+fn names_of_facts(alloc: Global, facts: &[FactName]) -> Result<Vec<u32>, Memory>
+    ensures { IfOk result (λ r. r.items ≡ map (λ f. f.name.0) facts.now) }
 {
-    let mut shadows = Vec::with_capacity(alloc, facts.len())?;
+    let mut names = Vec::with_capacity(alloc, facts.len())?;
     for fact in facts {
-        let name = fact.name.0;
-        let cover = find_cover(covers, name);
-        shadows.push(Shadow { name, cover })?;
-        let entry = Cover {
-            function: now,
-            captured: true,
-        };
-        put_cover(covers, name, Some(entry))?;
+        names.push(fact.name.0)?;
     }
-    Ok(shadows)
+    Ok(names)
 }
 
 /// Covers the names of the entries that aren't captured by such entries.
@@ -60,7 +47,12 @@ pub(crate) fn enter(
     ensures covers { OnOk result ((x : ℕ) → cover_of covers.new.items x ≡ entered now facts.now x (cover_of covers.old.items x)) }
     ensures shadows { IfOk result (λ r. (x : ℕ) (o : Option Cover) → restored r.items x o ≡ (if has_fact x facts.now then cover_of covers.old.items x else o)) }
 {
-    let shadows = put_facts(alloc, covers, now, facts)?;
+    let names = names_of_facts(alloc, facts)?;
+    let entry = Cover {
+        function: now,
+        captured: true,
+    };
+    let shadows = scope_facts::enter(alloc, covers, entry, &names)?;
     mark_facts(covers, now, facts)?;
     Ok(shadows)
 }

@@ -18,8 +18,8 @@ use bast_base::{Memory, NameId};
 use bast_schema::{Node, Value};
 use scope_facts::{
     Cover, Ctx, Part, Rule, ScopeFacts, Shape, Violation, find_cover, first_name_of,
-    functions_inside, is_eval_call, is_scope_value, leave, name_of_eval, part_of, put_bound,
-    scope_shape,
+    functions_inside, is_eval_call, is_scope_value, leave, name_of_eval, part_of, scope_shape,
+    with_bound,
 };
 use std::alloc::Global;
 use string_table::StringTable;
@@ -144,8 +144,7 @@ fn walk_node(
     }
     let fields = node.fields();
     let inside = functions_inside(part_of(node.kind()), now);
-    let mut names = Vec::new(alloc);
-    put_bound(&mut names, fields)?;
+    let names = with_bound(Vec::new(alloc), fields)?;
     walk_fields(
         alloc,
         eval,

@@ -182,8 +182,7 @@ parameters_size : (after : Data) → size_in (parameter_entries after) ≤ 4 * o
 parameters_size none = omega arith
 parameters_size (more d ds) = omega (arith, at_size d)
 
--- which kinds may stand in a field
-
+-- whether a value with one of these kinds may stand in a field of a type, or in a list there
 abbrev may : (Kind → Bool) → FieldType → Bool
 may q (field.Node u) = list_any q (kinds_in u)
 may q (field.Optional u) = list_any q (kinds_in u)
@@ -191,10 +190,12 @@ may q (field.Lazy u) = list_any q (kinds_in u)
 may q (field.List u holes filled) = list_any q (kinds_in u)
 may q _ = false
 
+-- whether no field may have one of these kinds
 abbrev no : (Kind → Bool) → List FieldType → Bool
 no q [] = true
 no q (t ∷ ts) = not (may q t) && no q ts
 
+-- whether at most one field may
 abbrev at_most_one : (Kind → Bool) → List FieldType → Bool
 at_most_one q [] = true
 at_most_one q (t ∷ ts) = if may q t then no q ts else at_most_one q ts
@@ -246,9 +247,11 @@ abbrev total : (Datum → Data → ℕ) → Data → ℕ
 total w none = 0
 total w (more d ds) = w d ds + total w ds
 
+-- only values with one of these kinds add to the sum
 record Only (q : Kind → Bool) (w : Datum → Data → ℕ) : Type 0 where
   other : (t : FieldType) (d : Datum) (after : Data) → fits t d ≡ true → may q t ≡ false → w d after ≡ 0
 
+-- each value adds at most a number of those after it, which grows from the last value to the first
 record Bounds (w : Datum → Data → ℕ) (m : Data → ℕ) : Type 0 where
   each : (d : Datum) (after : Data) → w d after ≤ m after
   grows : (d : Datum) (after : Data) → m after ≤ m (more d after)
@@ -275,6 +278,7 @@ total_one q w m o b (t ∷ ts) (more d ds) h g = one_step q w m o b t ts d ds (m
 
 -- the names that the values of a node bind
 
+-- whether a node of a kind binds its name
 abbrev is_binder : Kind → Bool
 is_binder k = is_binding (roles.form k)
 
@@ -327,13 +331,16 @@ abbrev is_bound_name : Shape → Bool
 is_bound_name shape.BoundName = true
 is_bound_name _ = false
 
+-- whether a kind is a scope of such a shape
 abbrev of_shape : (Shape → Bool) → Kind → Bool
 of_shape q k = q (shape_of k)
 
+-- how many values the entries of a scope of such a shape have
 abbrev made_at : (Shape → Bool) → List ℕ → Datum → Data → ℕ
 made_at q names (child (branch k es)) after = if q (shape_of k) then size_in (entries (shape_of k) names after) else 0
 made_at q names d after = 0
 
+-- the same of all such scopes among the fields of a node whose values bind these names
 abbrev made : (Shape → Bool) → List ℕ → Data → ℕ
 made q names ds = total (made_at q names) ds
 
@@ -423,6 +430,7 @@ made_parameters names ts ds h g = total_one (of_shape is_parameters) (made_at is
 made_bound_name : (names : List ℕ) (ts : List FieldType) (ds : Data) → fit ts ds ≡ true → at_most_one (of_shape is_bound_name) ts ≡ true → made is_bound_name names ds ≤ 4 * length names
 made_bound_name names ts ds h g = total_one (of_shape is_bound_name) (made_at is_bound_name names) (λ es. 4 * length names) (made_only is_bound_name names) (bound_name_bound names) ts ds h g
 
+-- the same of every shape
 abbrev all_at : List ℕ → Datum → Data → ℕ
 all_at names d after = made_at is_statements names d after + made_at is_lexical names d after + made_at is_parameters names d after + made_at is_bound_name names d after
 
@@ -459,10 +467,12 @@ field_part names d after false s h = omega arith
 abbrev is_script : Kind → Bool
 is_script k = same_kind Script k
 
+-- whether there is one field, a name
 abbrev is_one_name : List FieldType → Bool
 is_one_name (field.Name ∷ []) = true
 is_one_name _ = false
 
+-- whether no field may be a scope
 abbrev has_no_scope : List FieldType → Bool
 has_no_scope ts = no (of_shape is_statements) ts && (no (of_shape is_lexical) ts && (no (of_shape is_parameters) ts && no (of_shape is_bound_name) ts))
 
@@ -478,6 +488,7 @@ abbrev binds_one : Form → List FieldType → Bool
 binds_one form.Parameters ts = true
 binds_one _ ts = at_most_one is_binder ts
 
+-- both, where no script is inside another node
 abbrev names_apart : Form → List FieldType → Bool
 names_apart f ts = no is_script ts && (binds_one f ts && scopes_apart f ts)
 
@@ -487,9 +498,12 @@ each_apart _ h = refl
 
 -- a node that is no script
 
+-- with their scopes filled, and four values for each name that they give, fields take at most four times their values,
+-- and their entries
 abbrev Fields : List ℕ → Data → Type 0
 Fields names ds = size_in (filled_in names ds) + 4 * up_in ds + 2 * length (bound ds) ≤ 4 * size_in ds + all_made names ds
 
+-- the same of a node of a form, whose names that go on are fewer by those that its entries take
 abbrev Node : Form → Data → Type 0
 Node f ds = 1 + size_in (filled_in (bound ds) ds) + 4 * (length (vars_by f ds (vars_in ds)) + length (lexicals_by f ds (lexicals_in ds)) + own_by f ds (own_in ds)) + 2 * length (option_to_list (binding_name f ds)) ≤ 4 * (1 + size_in ds)
 

@@ -1,11 +1,17 @@
 -- Covers that are kept and put back, where entries cover names one after the other and a test says whether an entry is of
 -- the name.
-use Rattle.std.proofs.Common.{arith, ℕ, List, [], ◌∷◌, ◌++◌, ◌≡◌, ◌<◌, ◌+◌, Bool, true, false, refl, ap, sym, ◌||◌, nat_eq, if◌then◌else◌, Option, ◌∙◌, take, length, get_or}
+use Rattle.std.proofs.Common.{arith, ℕ, List, [], ◌∷◌, ◌++◌, ◌≡◌, ◌<◌, ◌+◌, Bool, true, false, refl, ap, sym, ◌||◌, nat_eq, if◌then◌else◌, Option, ◌∙◌, take, length, get_or, set}
 use Rattle.std.specs.List.{list_any}
+use Rattle.std.proofs.lemmas.List.{take_more}
 use Rattle.std.proofs.lemmas.List.Folds.{list_any_more}
-use Rattle.scope_facts.specs.Covers.{restored}
+use Rattle.std.proofs.lemmas.Grind.{common_steps}
+use Rattle.std.proofs.lemmas.Bool.Decides.{nat_tests}
+use Rattle.scope_facts.specs.Covers.{restored, has_name, shadows_among, cover_of}
 use Rattle.scope_facts.specs.declared.covers.Cover.{Cover}
 use Rattle.scope_facts.specs.declared.covers.Shadow.{Shadow}
+
+pub put_there : (cs : List (Option Cover)) (n x : ℕ) (v : Option Cover) → n < length cs → cover_of (set cs n v) x ≡ (if nat_eq n x then v else cover_of cs x)
+put_there cs n x v h = grind (arith, nat_tests, common_steps)
 
 pub restored_last : (xs : List Shadow) (b : Shadow) (x : ℕ) (o : Option Cover) → restored (xs ++ b ∷ []) x o ≡ restored xs x (if nat_eq b.name x then b.cover else o)
 restored_last [] b x o = refl
@@ -22,32 +28,28 @@ pub cover_entered : {A : Type 0} (is : A → Bool) (es : List A) (i : ℕ) (d : 
     → r ≡ (if list_any is (take (i + 1) es) then o else p)
 cover_entered is es i d o p q r h e f = f ∙ entered (list_any is (take i es)) (is (get_or es i d)) o p q e ∙ ap (λ b. if b then o else p) (sym (list_any_more is es i d h))
 
+either : (a b : Bool) (p o : Option Cover) → (if a then p else (if b then p else o)) ≡ (if a || b then p else o)
+either true b p o = refl
+either false b p o = refl
+
 same_cover : (n x : ℕ) (b : Bool) (f : ℕ → Option Cover) → nat_eq n x ≡ b → (p o : Option Cover) → f x ≡ p → (if b then f n else o) ≡ (if b then p else o)
 same_cover n x true f e p o g = let s : n ≡ x = grind arith in ap f s ∙ g
 same_cover n x false f e p o g = refl
 
-kept : (a b : Bool) (p o q : Option Cover) → (a ≡ false → q ≡ p) → (if a then p else (if b then q else o)) ≡ (if a || b then p else o)
-kept true b p o q h = refl
-kept false true p o q h = h refl
-kept false false p o q h = refl
+-- what is kept of names, put back
+pub restored_among : (f : ℕ → Option Cover) (ns : List ℕ) (x : ℕ) (o : Option Cover) → restored (shadows_among f ns) x o ≡ (if has_name x ns then f x else o)
+restored_among f [] x o = refl
+restored_among f (n ∷ ns) x o = same_cover n x (nat_eq n x) f refl (f x) (restored (shadows_among f ns) x o) refl
+    ∙ ap (λ y. if nat_eq n x then f x else y) (restored_among f ns x o) ∙ either (nat_eq n x) (has_name x ns) (f x) o
 
-not_entered : (a : Bool) (o p q : Option Cover) → q ≡ (if a then o else p) → a ≡ false → q ≡ p
-not_entered true o p q e f = cc
-not_entered false o p q e f = e
+pub named_among : (f : ℕ → Option Cover) (ns : List ℕ) (x : ℕ) → list_any (λ s. nat_eq s.name x) (shadows_among f ns) ≡ has_name x ns
+named_among f [] x = refl
+named_among f (n ∷ ns) x = ap (λ b. nat_eq n x || b) (named_among f ns x)
 
--- what is kept for one more entry, where f tells the covers before
-pub shadow_entered : {A : Type 0} (name : A → ℕ) (x : ℕ) (es : List A) (i : ℕ) (d : A) (shadows : List Shadow) (s : Shadow) (f : ℕ → Option Cover) (e p o : Option Cover) → i < length es
-    → s.name ≡ name (get_or es i d) → s.cover ≡ f (name (get_or es i d)) → f x ≡ (if list_any (λ a. nat_eq (name a) x) (take i es) then e else p)
-    → ((y : Option Cover) → restored shadows x y ≡ (if list_any (λ a. nat_eq (name a) x) (take i es) then p else y))
-    → restored (shadows ++ s ∷ []) x o ≡ (if list_any (λ a. nat_eq (name a) x) (take (i + 1) es) then p else o)
-shadow_entered name x es i d shadows s f e p o h sn sc fe r =
-    let n : ℕ = name (get_or es i d)
-    in let b : Bool = nat_eq n x
-    in let was : Bool = list_any (λ a. nat_eq (name a) x) (take i es)
-    in restored_last shadows s x o
-    ∙ ap (λ m. restored shadows x (if nat_eq m x then s.cover else o)) sn
-    ∙ ap (λ y. restored shadows x (if b then y else o)) sc
-    ∙ ap (restored shadows x) (same_cover n x b f refl (f x) o refl)
-    ∙ r (if b then f x else o)
-    ∙ kept was b p o (f x) (not_entered was e p (f x) fe)
-    ∙ ap (λ c. if c then p else o) (sym (list_any_more (λ a. nat_eq (name a) x) es i d h))
+shadows_last : (f : ℕ → Option Cover) (ns : List ℕ) (n : ℕ) → shadows_among f (ns ++ n ∷ []) ≡ shadows_among f ns ++ record { name = n; cover = f n } ∷ []
+shadows_last f [] n = refl
+shadows_last f (m ∷ ns) n = ap (λ ss. record { name = m; cover = f m } ∷ ss) (shadows_last f ns n)
+
+pub shadows_more : (f : ℕ → Option Cover) (ns : List ℕ) (i : ℕ) (ss ts : List Shadow) (o : Option Cover) → i < length ns → ts ≡ ss ++ record { name = get_or ns i 0; cover = o } ∷ [] → o ≡ f (get_or ns i 0)
+    → ss ≡ shadows_among f (take i ns) → ts ≡ shadows_among f (take (i + 1) ns)
+shadows_more f ns i ss ts o h e g r = rw (take_more ns i 0 h, shadows_last f (take i ns) (get_or ns i 0), ← r, ← g) e

@@ -54,6 +54,11 @@ abbrev pub restored : List Shadow → ℕ → Option Cover → Option Cover
 restored [] x o = o
 restored (a ∷ others) x o = if nat_eq a.name x then a.cover else restored others x o
 
+-- what is kept of names, where f tells the cover of each
+abbrev pub shadows_among : (ℕ → Option Cover) → List ℕ → List Shadow
+shadows_among f [] = []
+shadows_among f (n ∷ ns) = record { name = n; cover = f n } ∷ shadows_among f ns
+
 -- how many functions are around what is inside a node
 abbrev pub inside_now : Part → ℕ → ℕ
 inside_now Function now = now + 1

@@ -1,6 +1,7 @@
-ghost use Rattle.std.specs.Prelude.{◌≡◌, ◌<◌, ◌+◌, ◌^◌, IfOk, OnOk, ℕ, Some, false, nat_eq, length, Option, if◌then◌else◌};
+ghost use Rattle.std.specs.Prelude.{◌≡◌, ◌<◌, ◌≤◌, ◌+◌, ◌^◌, All, IfOk, OnErr, OnOk, ℕ, Some, false, nat_eq, length, Option, if◌then◌else◌};
+ghost use Rattle.std.specs.List.{list_any};
 ghost use Rattle.bast_schema.specs.View.{datum, data_of};
-ghost use Rattle.scope_facts.specs.Covers.{cover_of, touched, has_name, restored, names_among, entry_names, entry_name, inside_now};
+ghost use Rattle.scope_facts.specs.Covers.{cover_of, touched, has_name, restored, shadows_among, names_among, entry_names, entry_name, inside_now};
 ghost use Rattle.scope_facts.specs.declared.covers.Cover.{Cover};
 
 use crate::names::first_name_of;
@@ -40,7 +41,8 @@ pub fn find_cover(covers: &[Option<Cover>], name: u32) -> Option<Cover>
 /// Makes room for the cover of a name.
 fn make_room(covers: &mut Vec<Option<Cover>>, name: u32) -> Result<(), Memory>
     ensures room { OnOk result (name < length covers.new.items) }
-    ensures covers { OnOk result ((x : ℕ) → cover_of covers.new.items x ≡ cover_of covers.old.items x) }
+    ensures more { length covers.old.items ≤ length covers.new.items }
+    ensures covers { (x : ℕ) → cover_of covers.new.items x ≡ cover_of covers.old.items x }
 {
     for _ in covers.len()..name as usize + 1 {
         covers.push(None)?;
@@ -54,7 +56,8 @@ pub fn put_cover(
     name: u32,
     cover: Option<Cover>,
 ) -> Result<(), Memory>
-    ensures { OnOk result ((x : ℕ) → cover_of covers.new.items x ≡ (if nat_eq name x then cover else cover_of covers.old.items x)) }
+    ensures covers { OnOk result ((x : ℕ) → cover_of covers.new.items x ≡ (if nat_eq name x then cover else cover_of covers.old.items x)) }
+    ensures unchanged { OnErr result ((x : ℕ) → cover_of covers.new.items x ≡ cover_of covers.old.items x) }
 {
     make_room(covers, name)?;
     covers[name as usize] = cover;
@@ -89,36 +92,73 @@ pub(crate) fn use_name(covers: &mut Vec<Option<Cover>>, now: u32, name: u32) -> 
     put_cover(covers, name, Some(captured))
 }
 
-/// Covers names by the entries of a scope inside so many functions, and keeps what covered them before.
-pub(crate) fn enter(
-    alloc: Global,
-    covers: &mut Vec<Option<Cover>>,
-    now: u32,
-    names: &[u32],
-) -> Result<Vec<Shadow>, Memory>
-    ensures covers { OnOk result ((x : ℕ) → cover_of covers.new.items x ≡ (if has_name x names.now then Some (record { function = now; captured = false }) else cover_of covers.old.items x)) }
-    ensures shadows { IfOk result (λ r. (x : ℕ) (o : Option Cover) → restored r.items x o ≡ (if has_name x names.now then cover_of covers.old.items x else o)) }
+/// Makes room for the covers of names.
+fn make_rooms(covers: &mut Vec<Option<Cover>>, shadows: &[Shadow]) -> Result<(), Memory>
+    ensures room { OnOk result (All (λ s. s.name < length covers.new.items) shadows.now) }
+    ensures covers { (x : ℕ) → cover_of covers.new.items x ≡ cover_of covers.old.items x }
+{
+    for shadow in shadows {
+        make_room(covers, shadow.name)?;
+    }
+    Ok(())
+}
+
+/// Puts back what covered the names before a scope, where there is room for them.
+fn put_back(covers: &mut Vec<Option<Cover>>, mut shadows: Vec<Shadow>)
+    requires { All (λ s. s.name < length covers.old.items) shadows.items }
+    ensures { (x : ℕ) → cover_of covers.new.items x ≡ restored shadows.items x (cover_of covers.old.items x) }
+{
+    while let Some(shadow) = shadows.pop() {
+        covers[shadow.name as usize] = shadow.cover;
+    }
+}
+
+/// What covers names, to put it back.
+fn shadows_of(alloc: Global, covers: &[Option<Cover>], names: &[u32]) -> Result<Vec<Shadow>, Memory>
+    ensures { IfOk result (λ r. r.items ≡ shadows_among (cover_of covers.now) names.now) }
 {
     let mut shadows = Vec::with_capacity(alloc, names.len())?;
     for name in names {
         let cover = find_cover(covers, *name);
         shadows.push(Shadow { name: *name, cover })?;
-        let entry = Cover {
-            function: now,
-            captured: false,
-        };
-        put_cover(covers, *name, Some(entry))?;
     }
     Ok(shadows)
 }
 
-/// Puts back what covered the names before a scope.
-pub fn leave(covers: &mut Vec<Option<Cover>>, mut shadows: Vec<Shadow>) -> Result<(), Memory>
-    ensures { OnOk result ((x : ℕ) → cover_of covers.new.items x ≡ restored shadows.items x (cover_of covers.old.items x)) }
+/// Covers the names of shadows by an entry, where there is room for them.
+fn put_entries(covers: &mut Vec<Option<Cover>>, entry: Cover, shadows: &[Shadow])
+    requires { All (λ s. s.name < length covers.old.items) shadows.now }
+    ensures { (x : ℕ) → cover_of covers.new.items x ≡ (if list_any (λ s. nat_eq s.name x) shadows.now then Some entry else cover_of covers.old.items x) }
 {
-    while let Some(shadow) = shadows.pop() {
-        put_cover(covers, shadow.name, shadow.cover)?;
+    for shadow in shadows {
+        covers[shadow.name as usize] = Some(entry);
     }
+}
+
+/// Covers each of the names by an entry, and keeps what covered them before.
+pub fn enter(
+    alloc: Global,
+    covers: &mut Vec<Option<Cover>>,
+    entry: Cover,
+    names: &[u32],
+) -> Result<Vec<Shadow>, Memory>
+    ensures covers { OnOk result ((x : ℕ) → cover_of covers.new.items x ≡ (if has_name x names.now then Some entry else cover_of covers.old.items x)) }
+    ensures shadows { IfOk result (λ r. (x : ℕ) (o : Option Cover) → restored r.items x o ≡ (if has_name x names.now then cover_of covers.old.items x else o)) }
+    ensures unchanged { OnErr result ((x : ℕ) → cover_of covers.new.items x ≡ cover_of covers.old.items x) }
+{
+    let shadows = shadows_of(alloc, covers, names)?;
+    make_rooms(covers, &shadows)?;
+    put_entries(covers, entry, &shadows);
+    Ok(shadows)
+}
+
+/// Puts back what covered the names before a scope.
+pub fn leave(covers: &mut Vec<Option<Cover>>, shadows: Vec<Shadow>) -> Result<(), Memory>
+    ensures covers { OnOk result ((x : ℕ) → cover_of covers.new.items x ≡ restored shadows.items x (cover_of covers.old.items x)) }
+    ensures unchanged { OnErr result ((x : ℕ) → cover_of covers.new.items x ≡ cover_of covers.old.items x) }
+{
+    make_rooms(covers, &shadows)?;
+    put_back(covers, shadows);
     Ok(())
 }
 

@@ -58,7 +58,11 @@ fn flag_fields(
     };
     if is_scope_value(&first) {
         let names = names_of_scope(alloc, &first)?;
-        let shadows = enter(alloc, covers, now, &names)?;
+        let entry = Cover {
+            function: now,
+            captured: false,
+        };
+        let shadows = enter(alloc, covers, entry, &names)?;
         let (mut rest, evals) = flag_fields(alloc, eval, now, covers, fields)?;
         let scope = flag_scope(alloc, &*covers, evals, first)?;
         leave(covers, shadows)?;

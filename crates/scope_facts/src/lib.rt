@@ -3,6 +3,7 @@
 #![tactic(auto)]
 
 mod bare;
+mod collecting;
 mod context;
 mod covers;
 mod entries;
@@ -17,8 +18,11 @@ mod repeats;
 mod roles;
 
 pub use bare::plain;
+pub use collecting::{
+    with_bound, with_bound_below, with_items, with_lexicals_in, with_tops_in, with_vars_in,
+};
 pub use context::{Ctx, FactName, Rule, ScopeFacts, Violation};
-pub use covers::{Cover, Shadow, find_cover, functions_inside, leave, put_cover};
+pub use covers::{Cover, Shadow, enter, find_cover, functions_inside, leave, put_cover};
 pub use entries::{are_simple, make_entries};
 pub use evals::{is_eval_call, name_of_eval};
 pub use exact_scopes::annotate;
@@ -27,10 +31,7 @@ pub use laws::{
     exact_scopes_change_scopes_alone, exact_scopes_depend_on_no_scopes,
     numbers_of_names_mean_nothing, scopes_declare_nothing, uses_find_captured_entries,
 };
-pub use names::{
-    Declared, NameKind, bound_name, first_name_of, put_bound, put_bound_below, put_items,
-    put_lexicals_in, put_tops_in, put_vars_in,
-};
+pub use names::{Declared, NameKind, bound_name, first_name_of};
 pub use roles::{Form, Part, Shape, form_of, is_scope_value, part_of, scope_shape};
 
 #[cfg(test)]

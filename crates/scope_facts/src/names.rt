@@ -69,7 +69,7 @@ pub fn bound_name(value: &Value) -> Option<u32>
 }
 
 /// Adds the names that values bind themselves.
-pub fn put_bound(names: &mut Vec<u32>, values: &[Value]) -> Result<(), Memory>
+pub(crate) fn put_bound(names: &mut Vec<u32>, values: &[Value]) -> Result<(), Memory>
     ensures { OnOk result (names.new.items ≡ names.old.items ++ bound (data_of values.now)) }
 {
     for value in values {
@@ -81,7 +81,7 @@ pub fn put_bound(names: &mut Vec<u32>, values: &[Value]) -> Result<(), Memory>
 }
 
 /// Adds the names that an item binds, itself or by its fields.
-pub fn put_bound_below(names: &mut Vec<u32>, item: &Value) -> Result<(), Memory>
+pub(crate) fn put_bound_below(names: &mut Vec<u32>, item: &Value) -> Result<(), Memory>
     ensures { OnOk result (names.new.items ≡ names.old.items ++ bound_below_at (datum item.now)) }
 {
     if let Value::Node(node) = item {
@@ -94,7 +94,7 @@ pub fn put_bound_below(names: &mut Vec<u32>, item: &Value) -> Result<(), Memory>
 }
 
 /// Adds the names that the items of a list bind.
-pub fn put_items(names: &mut Vec<u32>, items: &[Value]) -> Result<(), Memory>
+pub(crate) fn put_items(names: &mut Vec<u32>, items: &[Value]) -> Result<(), Memory>
     ensures { OnOk result (names.new.items ≡ names.old.items ++ bound_below (data_of items.now)) }
 {
     for item in items {
@@ -177,7 +177,7 @@ fn put_vars(names: &mut Vec<u32>, node: &Node) -> Result<(), Memory>
 
 /// Adds the var names in values.
 #[cycle(vars)]
-pub fn put_vars_in(names: &mut Vec<u32>, values: &[Value]) -> Result<(), Memory>
+pub(crate) fn put_vars_in(names: &mut Vec<u32>, values: &[Value]) -> Result<(), Memory>
     ensures { OnOk result (names.new.items ≡ names.old.items ++ vars_in (data_of values.now)) }
 {
     for value in values {
@@ -259,7 +259,7 @@ fn put_lexicals(alloc: Global, out: &mut Vec<Declared>, node: &Node) -> Result<(
 
 /// Adds the lexical names in values.
 #[cycle(lexicals)]
-pub fn put_lexicals_in(
+pub(crate) fn put_lexicals_in(
     alloc: Global,
     out: &mut Vec<Declared>,
     values: &[Value],
@@ -317,7 +317,11 @@ fn put_tops_among(
 }
 
 /// Adds the names that the first list among values declares, as the statements of a script or of a body.
-pub fn put_tops_in(alloc: Global, out: &mut Vec<Declared>, values: &[Value]) -> Result<(), Memory>
+pub(crate) fn put_tops_in(
+    alloc: Global,
+    out: &mut Vec<Declared>,
+    values: &[Value],
+) -> Result<(), Memory>
     ensures { OnOk result (out.new.items ≡ out.old.items ++ tops_in (data_of values.now)) }
 {
     match values {

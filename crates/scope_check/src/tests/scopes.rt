@@ -5,7 +5,7 @@ use bast_schema::{
     DECLARED_CONST, DECLARED_LEXICAL, DECLARED_VAR, Kind, LEXICAL_LET, Node, Value, Values,
     values_left,
 };
-use scope_facts::put_bound;
+use scope_facts::with_bound;
 use std::alloc::Global;
 use std::test::Fail;
 
@@ -100,8 +100,7 @@ fn rest(alloc: Global, number: u32) -> Result<Value, Fail> {
 /// What is found at the scope that is a node's first value.
 fn found(alloc: Global, owner: &Node) -> Option<Finding> {
     let _left = values_left(owner, 1000)?;
-    let mut names = Vec::new(alloc);
-    put_bound(&mut names, owner.fields()).ok()?;
+    let names = with_bound(Vec::new(alloc), owner.fields()).ok()?;
     match owner.fields() {
         [Value::Node(scope), after @ ..] => judge_scope(alloc, scope, &names, after).ok(),
         _ => None,

@@ -1,11 +1,17 @@
-use Rattle.std.proofs.Common.{ap, ◌∙◌, refl, get_or, nat_eq}
-use Rattle.scope_facts.specs.Covers.{cover_of, restored}
-use Rattle.scope_facts.proofs.Shadows.{cover_entered, shadow_entered}
+use Rattle.std.proofs.Common.{ap, ◌∙◌, Some, nat_eq, if◌then◌else◌}
+use Rattle.std.specs.List.{list_any}
+use Rattle.scope_facts.specs.Covers.{cover_of, has_name, restored}
+use Rattle.scope_facts.proofs.Shadows.{named_among, restored_among}
 use Rattle.scope_facts.proofs.covers.enter.Goals as goal
 
-pub loop-name-preserved : goal.loop-name-preserved
-loop-name-preserved c = record {
-  covers = λ x. cover_entered (λ n. nat_eq n x) c.args.names.now c.loop-name.name-index 0 _ _ _ _ c.loop-name-test.true (c.loop-name.invariant.covers x) (c.in_ok-put_cover.ensures x);
-  shadows = λ x o. ap (λ ss. restored ss x o) c.in_ok-push.ensures.items
-      ∙ shadow_entered (λ n. n) x c.args.names.now c.loop-name.name-index 0 c.loop-name.shadows.items _ (cover_of c.loop-name.covers.items) _ _ o c.loop-name-test.true refl (c.find_cover-cover.ensures ∙ ap (λ cs. cover_of cs (get_or c.args.names.now c.loop-name.name-index 0)) c.deref.ensures.value) (c.loop-name.invariant.covers x) (c.loop-name.invariant.shadows x);
+pub returns : goal.returns
+returns c = record {
+  covers = λ x. c.put_entries.ensures x
+      ∙ ap (λ ss. if list_any (λ s. nat_eq s.name x) ss then Some c.args.entry else cover_of c.make_rooms.new.covers.items x) (c.deref-3.ensures.value ∙ c.in_ok-shadows.ensures)
+      ∙ ap (λ b. if b then Some c.args.entry else cover_of c.make_rooms.new.covers.items x) (named_among (cover_of c.deref.result.now) c.args.names.now x)
+      ∙ ap (λ o. if has_name x c.args.names.now then Some c.args.entry else o) (c.make_rooms.ensures.covers x);
+  shadows = λ x o. ap (λ ss. restored ss x o) c.in_ok-shadows.ensures
+      ∙ restored_among (cover_of c.deref.result.now) c.args.names.now x o
+      ∙ ap (λ cs. if has_name x c.args.names.now then cover_of cs x else o) c.deref.ensures.value;
+  unchanged = tt;
 }

@@ -13,11 +13,11 @@ use Rattle.scope_facts.proofs.flagging.+flag.Goals as goal
 pub flag_fields-returns-in_ok-put_first-clause-fields : goal.flag_fields-returns-in_ok-put_first-clause-fields
 flag_fields-returns-in_ok-put_first-clause-fields t c = scope_fields _ (datum c.in-Some.first) _ _ _ _ _ c.in_ok-rest.evals c.deref.result.now c.args.now c.args.covers.now.items c.enter.new.covers.items c.flag_fields.new.covers.items
     c.in-Some.ensures (sym c.is_scope_value.ensures ∙ c.if-is_scope_value.true) (c.deref.ensures.value ∙ c.in_ok-names.ensures) c.in_ok-shadows.ensures.covers c.in_ok-rest.ensures.covers c.in_ok-rest.ensures.evals c.in_ok-rest.ensures.fields
-    (c.in_ok-scope.ensures ∙ ap (λ cs. scope_by (λ x. is_caught (cover_of cs x)) c.in_ok-rest.evals (datum c.in-Some.first)) c.deref-then-is_scope_value.ensures.value) c.in_ok-put_first.ensures
+    (c.in_ok-scope.ensures ∙ ap (λ cs. scope_by (λ x. is_caught (cover_of cs x)) c.in_ok-rest.evals (datum c.in-Some.first)) c.deref-then-is_scope_value.ensures.value) c.in_ok-put_first.ensures.first
 
 pub flag_fields-returns-in_ok-put_first-clause-covers : goal.flag_fields-returns-in_ok-put_first-clause-covers
 flag_fields-returns-in_ok-put_first-clause-covers t c = scope_touches (datum c.in-Some.first) _ _ c.deref.result.now c.args.now c.args.covers.now.items c.enter.new.covers.items c.flag_fields.new.covers.items c.leave.new.covers.items c.in_ok-shadows.shadows.items
-    c.in-Some.ensures (sym c.is_scope_value.ensures ∙ c.if-is_scope_value.true) (c.deref.ensures.value ∙ c.in_ok-names.ensures) c.in_ok-shadows.ensures.covers c.in_ok-shadows.ensures.shadows c.in_ok-rest.ensures.covers c.in_ok-leave.ensures
+    c.in-Some.ensures (sym c.is_scope_value.ensures ∙ c.if-is_scope_value.true) (c.deref.ensures.value ∙ c.in_ok-names.ensures) c.in_ok-shadows.ensures.covers c.in_ok-shadows.ensures.shadows c.in_ok-rest.ensures.covers c.in_ok-leave.ensures.covers
 
 pub flag_fields-returns-after-called-clause-covers : goal.flag_fields-returns-after-called-clause-covers
 flag_fields-returns-after-called-clause-covers t c = field_touches (datum c.in-Some.first) _ _ _ _ _ _ c.in-Some.ensures (sym c.is_scope_value.ensures ∙ c.if-is_scope_value.false) c.in_ok-first.ensures.covers c.in_ok-rest-2.ensures.covers
