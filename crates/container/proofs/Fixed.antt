@@ -11,13 +11,13 @@ use Rattle.container.specs.Parts.{agreeing, fixed_at}
 use Rattle.container.proofs.Counted.{not_less}
 use Rattle.container.proofs.Ranges.{Lies, range_to_end}
 
-agreeing_same : (x y : ℕ) (xs ys : List ℕ) → x ≡ y → agreeing (x ∷ xs) (y ∷ ys) ≡ suc (agreeing xs ys)
+pub agreeing_same : (x y : ℕ) (xs ys : List ℕ) → x ≡ y → agreeing (x ∷ xs) (y ∷ ys) ≡ suc (agreeing xs ys)
 agreeing_same x y xs ys is = rw (eq-eqb x y is) refl
 
-agreeing_other : (x y : ℕ) (xs ys : List ℕ) → x ≢ y → agreeing (x ∷ xs) (y ∷ ys) ≡ 0
+pub agreeing_other : (x y : ℕ) (xs ys : List ℕ) → x ≢ y → agreeing (x ∷ xs) (y ∷ ys) ≡ 0
 agreeing_other x y xs ys other = elim (eqb_tells x y) [ inl p ↦ absurd (other p.1) | inr p ↦ rw p.0 refl ]
 
-agreeing_none : (xs : List ℕ) → agreeing xs [] ≡ 0
+pub agreeing_none : (xs : List ℕ) → agreeing xs [] ≡ 0
 agreeing_none [] = refl
 agreeing_none (x ∷ xs) = refl
 
