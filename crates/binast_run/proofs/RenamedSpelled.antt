@@ -1,5 +1,5 @@
 -- A renamed tree is spelled as the tree, where each name stands for the same text.
-use Rattle.std.proofs.Common.{ℕ, List, [], ◌∷◌, ◌++◌, ◌+◌, ◌≡◌, Bool, true, false, refl, ap, not, ◌||◌, slice_get, get_or, Option, Some, None, is_some, if◌then◌else◌}
+use Rattle.std.proofs.Common.{ℕ, List, [], ◌∷◌, ◌++◌, ◌+◌, ◌≡◌, Bool, true, false, refl, ap, not, ◌&&◌, ◌||◌, ◌∙◌, slice_get, get_or, Option, Some, None, is_some, if◌then◌else◌}
 use Rattle.std.specs.List.{list_any, list_all}
 use Rattle.var_numbers.specs.Varnum.{varnum}
 use Rattle.bast_schema.specs.declared.kind.Union.{Union}
@@ -16,20 +16,21 @@ use Rattle.bast_schema.specs.Tree.{Tree, branch, Datum, child, listed, name, win
 use Rattle.bast_schema.proofs.Both.{and_first, and_second}
 use Rattle.container.specs.Atoms as atom
 use Rattle.container.specs.Atoms.{Atom, atoms, atoms_of, atoms_of_fields, atoms_of_items}
+use Rattle.container.specs.Folded.{folded}
 use Rattle.container.specs.InFile.{has_atom}
 use Rattle.container.specs.Named.{named, named_at, all_named}
 use Rattle.container.specs.Spelled.{spelled, spelled_fields, spelled_at, spelled_items}
 use Rattle.container.specs.Tables.{Tables, kind_place}
+use Rattle.container.proofs.ByAtoms.{eager_is_folded}
+use Rattle.container.proofs.Values.{child_fits, listed_fits}
 use Rattle.scope_facts.specs.Renamed.{renamed, renamed_at, renamed_in}
 use Rattle.string_table.specs.Entries.{is_same, place_in}
 use Rattle.string_table.proofs.Search.{list_any-from_none}
 use Rattle.tree_decoder.specs.Found.{is_text, stands, stands_at, all_stand}
-use Rattle.container.specs.Folded.{is_folded, folded, folded_at, folded_fields, folded_items}
 use Rattle.tree_decoder.specs.Range.{Range}
 use Rattle.tree_decoder.specs.Windows.{windows, windows_at, windows_in}
 use Rattle.tree_decoder.proofs.Accepts.{first_atom, other_atoms, front_atoms, back_atoms}
 use Rattle.tree_encoder.specs.File.{texts_held}
-use Rattle.container.proofs.Values.{child_fits, listed_fits}
 use Rattle.binast_run.proofs.Matching.{is_matched_text}
 use Rattle.binast_run.proofs.NamedTrees.{both}
 
@@ -126,33 +127,21 @@ mutual
 
 -- nothing is to be folded in a tree without lazy kinds
 
-not_any : (a b : Bool) → not (a || b) ≡ true → not b ≡ true
-not_any true b e = cc
-not_any false b e = e
-
-eager_field : (t : FieldType) (ts : List FieldType) (d : Datum) → not (list_any is_lazy_type (t ∷ ts)) ≡ true → is_folded t d ≡ true
-eager_field (field.Lazy u) ts d h = cc
-eager_field _ ts d h = refl
-
 mutual
-  pub eager_folded : (r : ℕ → ℕ) (t : Tree) → is_eager t ≡ true → folded (renamed r t) ≡ true
-  eager_folded r (branch k ds) e = fields_folded r (fields k) ds (and_first (not (has_lazy k)) (are_eager ds) e) (and_second (not (has_lazy k)) (are_eager ds) e)
+  eager_renamed : (r : ℕ → ℕ) (t : Tree) → is_eager (renamed r t) ≡ is_eager t
+  eager_renamed r (branch k ds) = ap (λ b. not (has_lazy k) && b) (eager_in_renamed r ds)
 
-  fields_folded : (r : ℕ → ℕ) (ts : List FieldType) (ds : Data) → not (list_any is_lazy_type ts) ≡ true → are_eager ds ≡ true → folded_fields ts (renamed_in r ds) ≡ true
-  fields_folded r [] none h e = refl
-  fields_folded r [] (more d ds) h e = refl
-  fields_folded r (t ∷ ts) none h e = refl
-  fields_folded r (t ∷ ts) (more d ds) h e = rw (eager_field t ts (renamed_at r d) h, value_folded r d (and_first (is_eager_at d) (are_eager ds) e))
-      (fields_folded r ts ds (not_any (is_lazy_type t) (list_any is_lazy_type ts) h) (and_second (is_eager_at d) (are_eager ds) e))
+  eager_at_renamed : (r : ℕ → ℕ) (d : Datum) → is_eager_at (renamed_at r d) ≡ is_eager_at d
+  eager_at_renamed r (child t) = eager_renamed r t
+  eager_at_renamed r (listed ds) = eager_in_renamed r ds
+  eager_at_renamed r _ = refl
 
-  value_folded : (r : ℕ → ℕ) (d : Datum) → is_eager_at d ≡ true → folded_at (renamed_at r d) ≡ true
-  value_folded r (child t) e = eager_folded r t e
-  value_folded r (listed ds) e = items_folded r ds e
-  value_folded r _ e = refl
+  eager_in_renamed : (r : ℕ → ℕ) (ds : Data) → are_eager (renamed_in r ds) ≡ are_eager ds
+  eager_in_renamed r none = refl
+  eager_in_renamed r (more d ds) = rw (eager_at_renamed r d, eager_in_renamed r ds) refl
 
-  items_folded : (r : ℕ → ℕ) (ds : Data) → are_eager ds ≡ true → folded_items (renamed_in r ds) ≡ true
-  items_folded r none e = refl
-  items_folded r (more d ds) e = rw (value_folded r d (and_first (is_eager_at d) (are_eager ds) e)) (items_folded r ds (and_second (is_eager_at d) (are_eager ds) e))
+pub eager_folded : (r : ℕ → ℕ) (t : Tree) → is_eager t ≡ true → folded (renamed r t) ≡ true
+eager_folded r t e = eager_is_folded (renamed r t) (eager_renamed r t ∙ e)
 
 -- a whole tree has no window
 

@@ -1,11 +1,12 @@
--- Where a container that breaks off is faulty, and where one is whose fixed bytes are changed.
+-- Where a container is faulty that breaks off, has a fixed byte changed, or has more after it.
 use Rattle.std.proofs.Common.{◌≡◌, ◌≢◌, ◌⊎◌, inl, inr, ℕ, zero, suc, ◌+◌, ◌-◌, ◌*◌, ◌/◌, ◌%◌, ◌<◌, ◌≤◌, ◌^◌, List, [], ◌∷◌, ◌++◌, length, take, drop, set, slice_index, slice_range, codes, Err, append_assoc, length-append, length-set, take-append-drop, refl, sym, ap, ◌∙◌, arith, lit<}
 use Rattle.std.specs.List.{AllByRecursion}
+use Rattle.std.proofs.lemmas.Bool.{lt-ltb}
 use Rattle.std.proofs.lemmas.List.{get_or-append-add, length-take-le, set-append_left, set-append_right}
 use Rattle.std.proofs.Math.ListN.{get_or-append}
 use Rattle.bast_base.specs.declared.errors.FormatFault.{FormatFault}
 use Rattle.bast_base.specs.declared.errors.Why.{Why}
-use Rattle.bast_base.specs.declared.errors.Why.TheVariants.{BadMagic, BadSection, Ended, NotIdentity}
+use Rattle.bast_base.specs.declared.errors.Why.TheVariants.{BadMagic, BadSection, Ended, NotIdentity, Trailing}
 use Rattle.var_numbers.specs.Varnum.{varnum}
 use Rattle.var_numbers.specs.VarnumRead.{last_place, moved, number_in}
 use Rattle.var_numbers.proofs.RangeLemmas.{only-spelled, range-length}
@@ -22,9 +23,10 @@ use Rattle.container.specs.Tables.{Tables}
 use Rattle.container.proofs.Answered.{answered, refused}
 use Rattle.container.proofs.Counted.{counted_ended, counted_fails, version_fails}
 use Rattle.container.proofs.Fixed.{agreeing_none, agreeing_other, agreeing_same, fixed_differs, fixed_ended}
+use Rattle.container.proofs.LayoutLemmas.{layout_left}
 use Rattle.container.proofs.Ranges.{range_to_end, split}
-use Rattle.container.proofs.ReadBack.{container_parts, fixed_read, head_passed, kinds_passed, texts_passed}
-use Rattle.container.proofs.Reached.{stops_in_grammar, stops_in_head, stops_in_strings, stops_in_tree}
+use Rattle.container.proofs.ReadBack.{container_more, container_parts, content_from, fixed_read, head_passed, kinds_passed, section_read, texts_passed}
+use Rattle.container.proofs.Reached.{behind_tree, stops_in_grammar, stops_in_head, stops_in_strings, stops_in_tree}
 
 -- ---- what is left breaks off within the next part, or has it whole
 
@@ -288,3 +290,23 @@ changed_told s tree bytes file few =
     let p = texts_passed changed (strings_start s) s.kinds s.texts rest k.reached file.distinct_texts file.entries k.within (omega arith) k.rest in
     record { within = p.within; is = p.rest; stops = λ f stop. (stops_in_tree p.reached f (sym stop)).layout }) in
     (first, (g.0, (g.1.0, (x.0, (x.1.0, (t.0, (t.1.0, tt)))))))
+
+-- ---- a container with more after it
+
+pub trailing_told : (s : Tables) (tree bytes more : List ℕ) → IsFileOf s tree bytes → length (bytes ++ more) < 2 ^ 32 → 0 < length more → layout_of (bytes ++ more) ≡ Err (fault (length bytes) Trailing)
+trailing_told s tree bytes more file few some =
+    let all = bytes ++ more in
+    let end = length all in
+    let ss = section (codes "[STRINGS]") (strings s.texts) in
+    let ts = section (codes "[TREE]") tree in
+    let whole = ap (λ (xs : List ℕ). xs ++ more) file.spelling ∙ container_more s tree more in
+    let h = head_passed all _ (range_to_end all 0 ∙ whole) in
+    let k = kinds_passed all grammar_start s.kinds (ss ++ (ts ++ more)) h.reached file.distinct_kinds h.within few h.rest in
+    let p = texts_passed all (strings_start s) s.kinds s.texts (ts ++ more) k.reached file.distinct_texts file.entries k.within few k.rest in
+    let t = section_read all (codes "[TREE]") (tree_start s) tree more p.within few p.rest in
+    let from = content_from (codes "[TREE]") (tree_start s) tree in
+    let to = from + length tree in
+    let left : to + length more ≡ end = left_length all to end more t.within (omega arith) t.rest in
+    let last : to ≡ length bytes = omega (arith, length-append bytes more) in
+    let over : to < end = omega arith in
+    layout_left all _ (fault to Trailing) (behind_tree p.reached (from, to) (sym t.is)) (rw (lt-ltb to end over) refl) ∙ ap (λ (n : ℕ). Err (fault n Trailing)) last

@@ -67,18 +67,18 @@ find bytes at end content more order small few is =
     }
 
 -- a section is found, with what is behind it
-record Section (bytes title : List ℕ) (at : ℕ) (content more : List ℕ) (r : ℕ × ℕ) : Type 0 where
-  is : section_at bytes title at ≡ Ok r
-  order : r.0 ≤ r.1
-  within : r.1 ≤ length bytes
-  long : r.1 ≡ r.0 + length content
-  content_is : slice_range bytes r.0 r.1 ≡ content
-  rest : slice_range bytes r.1 (length bytes) ≡ more
+pub record Section (bytes title : List ℕ) (at : ℕ) (content more : List ℕ) (r : ℕ × ℕ) : Type 0 where
+  pub is : section_at bytes title at ≡ Ok r
+  pub order : r.0 ≤ r.1
+  pub within : r.1 ≤ length bytes
+  pub long : r.1 ≡ r.0 + length content
+  pub content_is : slice_range bytes r.0 r.1 ≡ content
+  pub rest : slice_range bytes r.1 (length bytes) ≡ more
 
-abbrev content_from : List ℕ → ℕ → List ℕ → ℕ
+abbrev pub content_from : List ℕ → ℕ → List ℕ → ℕ
 content_from title at content = at + length title + length (codes "identity;") + length (varnum (length content))
 
-section_read : (bytes title : List ℕ) (at : ℕ) (content more : List ℕ) → at ≤ length bytes → length bytes < 2 ^ 32 → slice_range bytes at (length bytes) ≡ section title content ++ more
+pub section_read : (bytes title : List ℕ) (at : ℕ) (content more : List ℕ) → at ≤ length bytes → length bytes < 2 ^ 32 → slice_range bytes at (length bytes) ≡ section title content ++ more
     → Section bytes title at content more (content_from title at content, content_from title at content + length content)
 section_read bytes title at content more order few is =
     let form = codes "identity;" in
@@ -192,17 +192,21 @@ texts_passed bytes at ks ts more reached distinct valid within few is =
     subst (λ (p : ℕ). PastTexts bytes ks ts more p) (section_length (codes "[STRINGS]") at (strings ts))
     (record { reached = behind_texts (behind_strings reached (from, to) (sym s.is)) ts texts; within = s.within; rest = s.rest })
 
--- the parts of a container, with more after each
-pub container_parts : (s : Tables) (tree : List ℕ)
-    → container s tree ≡ codes "BINJS" ++ (varnum 1 ++ (section (codes "[GRAMMAR]") (grammar s.kinds) ++ (section (codes "[STRINGS]") (strings s.texts) ++ (section (codes "[TREE]") tree ++ []))))
+-- the parts of a container, and what follows it
+pub container_more : (s : Tables) (tree more : List ℕ)
+    → container s tree ++ more ≡ codes "BINJS" ++ (varnum 1 ++ (section (codes "[GRAMMAR]") (grammar s.kinds) ++ (section (codes "[STRINGS]") (strings s.texts) ++ (section (codes "[TREE]") tree ++ more))))
 unfolding container
-container_parts s tree =
+container_more s tree more =
     let magic = codes "BINJS" in
     let gs = section (codes "[GRAMMAR]") (grammar s.kinds) in
     let ss = section (codes "[STRINGS]") (strings s.texts) in
     let ts = section (codes "[TREE]") tree in
-    append_assoc ((magic ++ varnum 1) ++ gs) ss ts ∙ append_assoc (magic ++ varnum 1) gs (ss ++ ts) ∙ append_assoc magic (varnum 1) (gs ++ (ss ++ ts))
-    ∙ ap (λ (xs : List ℕ). magic ++ (varnum 1 ++ (gs ++ (ss ++ xs)))) (sym (append-nil ts))
+    append_assoc (((magic ++ varnum 1) ++ gs) ++ ss) ts more ∙ append_assoc ((magic ++ varnum 1) ++ gs) ss (ts ++ more) ∙ append_assoc (magic ++ varnum 1) gs (ss ++ (ts ++ more))
+    ∙ append_assoc magic (varnum 1) (gs ++ (ss ++ (ts ++ more)))
+
+pub container_parts : (s : Tables) (tree : List ℕ)
+    → container s tree ≡ codes "BINJS" ++ (varnum 1 ++ (section (codes "[GRAMMAR]") (grammar s.kinds) ++ (section (codes "[STRINGS]") (strings s.texts) ++ (section (codes "[TREE]") tree ++ []))))
+container_parts s tree = sym (append-nil (container s tree)) ∙ container_more s tree []
 
 pub layout_read : (s : Tables) (tree bytes : List ℕ) → IsFileOf s tree bytes → length bytes < 2 ^ 32 → (layout_of bytes ≡ Ok (layout_in s tree bytes)) × (slice_range bytes (length bytes - length tree) (length bytes) ≡ tree)
 layout_read s tree bytes file few =

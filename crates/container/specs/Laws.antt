@@ -1,7 +1,7 @@
 -- What holds of every container, and of the spelling of every tree.
-use Rattle.std.specs.Prelude.{◌≡◌, ℕ, ◌-◌, ◌<◌, ◌^◌, ◌≤◌, List, length, flat_map, slice_range, take, Ok, Err, IsTrue}
+use Rattle.std.specs.Prelude.{◌≡◌, ℕ, ◌-◌, ◌<◌, ◌^◌, ◌≤◌, List, ◌++◌, length, flat_map, slice_range, take, Ok, Err, IsTrue}
 use Rattle.std.specs.List.{All, AllByRecursion}
-use Rattle.bast_base.specs.declared.errors.Why.TheVariants.{Ended}
+use Rattle.bast_base.specs.declared.errors.Why.TheVariants.{Ended, Trailing}
 use Rattle.bast_schema.specs.Counts.{size}
 use Rattle.bast_schema.specs.Held.{Held}
 use Rattle.bast_schema.specs.Tree.{Tree, typed}
@@ -37,6 +37,12 @@ IsToldWhereEnded = (s : Tables) (tree bytes : List ℕ) (n : ℕ) → IsFileOf s
 -- where one of a container's fixed bytes is another, that is its first fault
 abbrev pub IsToldWhereChanged : Type 0
 IsToldWhereChanged = (s : Tables) (tree bytes : List ℕ) → IsFileOf s tree bytes → length bytes < 2 ^ 32 → AllByRecursion (IsTold bytes) (fixed_parts s)
+
+-- bytes after a container are its first fault
+abbrev pub IsToldWhereMore : Type 0
+IsToldWhereMore =
+    (s : Tables) (tree bytes others : List ℕ) → IsFileOf s tree bytes → length (bytes ++ others) < 2 ^ 32 → 0 < length others
+    → layout_of (bytes ++ others) ≡ Err (fault (length bytes) Trailing)
 
 -- A tree is spelled as its atoms, one after another in preorder. The law asks that the contents of each lazy kind are a
 -- window: where they are a node, the spelling of that node is the window's bytes, and its length stands before it.

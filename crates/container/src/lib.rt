@@ -10,9 +10,9 @@ mod tests;
 mod writing;
 
 pub use laws::{
-    changed_byte_is_first_fault, container_has_one_reading, container_is_ended_where_it_breaks_off,
-    container_is_read_back, layouts_are_containers, trees_are_spelled_by_atoms,
-    trees_have_no_more_values_than_bytes,
+    bytes_after_container_are_trailing, changed_byte_is_first_fault, container_has_one_reading,
+    container_is_ended_where_it_breaks_off, container_is_read_back, layouts_are_containers,
+    trees_are_spelled_by_atoms, trees_have_no_more_values_than_bytes,
 };
 pub use layout::{Layout, read_layout};
 pub use writing::write_file;
