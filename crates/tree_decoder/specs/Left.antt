@@ -1,5 +1,5 @@
 -- What is due after a list of atoms, each of which has to be of the first due's type, whatever its depth.
-use Rattle.std.specs.Prelude.{ℕ, Bool, true, false, ◌&&◌, ◌^◌, ◌≡◌, not, nat_eq, nat_lt, is_some, List, [], ◌∷◌, ◌++◌, Option, None, Some, IsTrue, if◌then◌else◌}
+use Rattle.std.specs.Prelude.{ℕ, Bool, true, ◌&&◌, ◌^◌, ◌≡◌, not, nat_eq, nat_lt, is_some, List, [], ◌∷◌, ◌++◌, Option, None, Some, IsTrue, if◌then◌else◌}
 use Rattle.bast_schema.specs.declared.kind.FieldType.{FieldType}
 use Rattle.bast_schema.specs.declared.kind.FieldType.TheVariants as field
 use Rattle.bast_schema.specs.declared.kind.Kind.TheVariants.{Null}
@@ -7,7 +7,7 @@ use Rattle.bast_schema.specs.Choices.{choice_of_text}
 use Rattle.bast_schema.specs.Fields.{fields, has_lazy}
 use Rattle.bast_schema.specs.Held.{Held}
 use Rattle.bast_schema.specs.Kinds.{same_kind}
-use Rattle.bast_schema.specs.Tree.{Tree, branch, Datum, child, listed, Data, none, more, fits, item_type}
+use Rattle.bast_schema.specs.Tree.{Datum, fits, item_type}
 use Rattle.bast_schema.specs.Unions.{allowed}
 use Rattle.container.specs.Folded.{is_folded, folded_at}
 use Rattle.container.specs.Atoms.{Atom, kind, count, flag, index, whole, text, window, atoms_of}

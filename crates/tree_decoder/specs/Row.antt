@@ -1,10 +1,7 @@
 -- Atoms that stand in a row, and what the reading answers behind them.
-use Rattle.std.specs.Prelude.{◌≡◌, ℕ, ◌≤◌, ◌++◌, List, [], ◌∷◌, Option, Some, Ok, Err, length, if◌then◌else◌}
-use Rattle.std.specs.Int.{w64, to_be_bytes}
+use Rattle.std.specs.Prelude.{◌≡◌, ℕ, ◌≤◌, ◌++◌, List, [], ◌∷◌, Option, Some, Ok, Err}
 use Rattle.bast_base.specs.declared.errors.FormatFault.{FormatFault}
-use Rattle.var_numbers.specs.Pattern.{pattern}
-use Rattle.var_numbers.specs.Varnum.{varnum}
-use Rattle.container.specs.Atoms.{Atom, kind, count, flag, index, whole, text, window}
+use Rattle.container.specs.Atoms.{Atom}
 use Rattle.container.specs.SpelledAtom.{spelled_atom}
 use Rattle.tree_decoder.specs.Dues.{Due, Taken, atom_at}
 use Rattle.tree_decoder.specs.Left.{dues_left, puts}
