@@ -1,23 +1,24 @@
 -- Bytes that are due, compared one after another.
 use Rattle.std.proofs.Common.{◌≡◌, ◌≢◌, inl, inr, ℕ, suc, ◌+◌, ◌-◌, ◌≤◌, ◌<◌, List, [], ◌∷◌, ◌++◌, length, drop, slice_index, refl, sym, ap, ◌∙◌, arith, add-one, drop-cons, length-append, length-drop, nat_eq, false, Ok, Err}
-use Rattle.std.proofs.lemmas.Bool.{eq-eqb, lt-ltb}
+use Rattle.std.proofs.lemmas.Bool.{cases_lt, eq-eqb, lt-ltb}
 use Rattle.std.proofs.lemmas.Bool.Decides.{eqb_tells}
 use Rattle.std.proofs.lemmas.List.{drop-drop}
 use Rattle.std.proofs.Math.ListN.{drop_of_length-le}
 use Rattle.bast_base.specs.declared.errors.Why.{Why}
 use Rattle.bast_base.specs.declared.errors.Why.TheVariants.{Ended}
 use Rattle.container.specs.Answers.{fault}
-use Rattle.container.specs.Parts.{agreeing, fixed_at}
+use Rattle.container.specs.Parts.{agreeing, behind_shared, fixed_at}
+use Rattle.container.proofs.Answered.{apart}
 use Rattle.container.proofs.Counted.{not_less}
 use Rattle.container.proofs.Ranges.{Lies, range_to_end}
 
-agreeing_same : (x y : ℕ) (xs ys : List ℕ) → x ≡ y → agreeing (x ∷ xs) (y ∷ ys) ≡ suc (agreeing xs ys)
+pub agreeing_same : (x y : ℕ) (xs ys : List ℕ) → x ≡ y → agreeing (x ∷ xs) (y ∷ ys) ≡ suc (agreeing xs ys)
 agreeing_same x y xs ys is = rw (eq-eqb x y is) refl
 
-agreeing_other : (x y : ℕ) (xs ys : List ℕ) → x ≢ y → agreeing (x ∷ xs) (y ∷ ys) ≡ 0
+pub agreeing_other : (x y : ℕ) (xs ys : List ℕ) → x ≢ y → agreeing (x ∷ xs) (y ∷ ys) ≡ 0
 agreeing_other x y xs ys other = elim (eqb_tells x y) [ inl p ↦ absurd (other p.1) | inr p ↦ rw p.0 refl ]
 
-agreeing_none : (xs : List ℕ) → agreeing xs [] ≡ 0
+pub agreeing_none : (xs : List ℕ) → agreeing xs [] ≡ 0
 agreeing_none [] = refl
 agreeing_none (x ∷ xs) = refl
 
@@ -62,6 +63,16 @@ fixed_ended bytes due why at i is some over = rw (is, not_all i (length due) som
 pub fixed_stands : (bytes due : List ℕ) (why : Why) (at : ℕ) → agreeing due (drop at bytes) ≡ length due → fixed_at bytes due why at ≡ Ok (at + length due)
 unfolding fixed_at
 fixed_stands bytes due why at is = rw (is, eq-eqb (length due) (length due) refl) refl
+
+-- where fixed bytes are read, all are shared
+pub shared_is : (bytes : List ℕ) (why : Why) (at count shared next : ℕ) → behind_shared bytes why at count shared ≡ Ok next → (shared ≡ count) × (next ≡ at + count)
+shared_is bytes why at count shared next is = elim (eqb_tells shared count) [
+  | inl p ↦ let e : Ok (at + shared) ≡ behind_shared bytes why at count shared = rw p.0 refl in let q : at + shared ≡ next = cc in (p.1, omega (arith, p.1))
+  | inr p ↦ elim (cases_lt (at + shared) (length bytes)) [
+    | inl some ↦ absurd (apart next (fault (at + shared) why) (sym is ∙ rw (p.0, lt-ltb (at + shared) (length bytes) some) refl))
+    | inr none ↦ absurd (apart next (fault (length bytes) Ended) (sym is ∙ rw (p.0, not_less (at + shared) (length bytes) none) refl))
+  ]
+]
 
 agreeing_front : (due xs : List ℕ) → agreeing due xs ≡ length due → xs ≡ due ++ drop (length due) xs
 agreeing_front [] xs is = refl

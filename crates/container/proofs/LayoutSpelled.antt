@@ -1,15 +1,14 @@
 -- Where a layout is read of bytes, they are its container.
-use Rattle.std.proofs.Common.{◌≡◌, ℕ, zero, suc, ◌+◌, ◌-◌, ◌<◌, ◌≤◌, List, [], ◌++◌, length, drop, slice_range, codes, Ok, Err, Result, nat_eq, refl, sym, ap, subst, ◌∙◌, arith, inl, inr, if◌then◌else◌}
+use Rattle.std.proofs.Common.{◌≡◌, ℕ, zero, suc, ◌+◌, ◌-◌, ◌<◌, ◌≤◌, List, [], ◌++◌, length, drop, slice_range, codes, Ok, Err, nat_eq, refl, sym, ap, subst, ◌∙◌, arith, inl, inr, if◌then◌else◌}
 use Rattle.std.specs.List.{All}
-use Rattle.std.proofs.lemmas.Bool.{cases_lt, lt-ltb}
 use Rattle.std.proofs.lemmas.Bool.Decides.{eqb_tells}
 use Rattle.std.proofs.lemmas.List.Elements.{All-drop, All-take}
 use Rattle.bast_base.specs.declared.errors.FormatFault.{FormatFault}
 use Rattle.bast_base.specs.declared.errors.Why.{Why}
-use Rattle.bast_base.specs.declared.errors.Why.TheVariants.{BadMagic, BadSection, BadVersion, Ended, NotIdentity}
+use Rattle.bast_base.specs.declared.errors.Why.TheVariants.{BadMagic, BadSection, BadVersion, NotIdentity}
 use Rattle.var_numbers.specs.ReadClauses.{Spells}
 use Rattle.var_numbers.specs.Varnum.{varnum}
-use Rattle.var_numbers.specs.VarnumRead.{moved, number_in}
+use Rattle.var_numbers.specs.VarnumRead.{number_in}
 use Rattle.var_numbers.proofs.InverseLemmas.{number_in-spelled}
 use Rattle.var_numbers.proofs.VarnumLemmas.{varnum-nonempty}
 use Rattle.container.specs.declared.layout.Layout.{Layout}
@@ -19,10 +18,10 @@ use Rattle.container.specs.Container.{counted}
 use Rattle.container.specs.Entries.{Judge, entries_at, entry_at, more_kinds, more_texts, table_at}
 use Rattle.container.specs.IsContainer.{IsContainer}
 use Rattle.container.specs.Layout.{Reached, layout_of}
-use Rattle.container.specs.Parts.{agreeing, behind_shared, counted_at, done_at, fixed_at, number_from, so_many, version_at}
+use Rattle.container.specs.Parts.{agreeing, counted_at, done_at, fixed_at, number_from, so_many, version_at}
 use Rattle.container.proofs.Added.{Adds, kind_adds, text_adds}
-use Rattle.container.proofs.Counted.{not_less}
-use Rattle.container.proofs.Fixed.{fixed_lies}
+use Rattle.container.proofs.Counted.{moved_from, so_many_is}
+use Rattle.container.proofs.Fixed.{fixed_lies, shared_is}
 use Rattle.container.proofs.LayoutLemmas.{from_grammar, from_kinds, from_strings, from_texts, from_tree, layout_known, read}
 use Rattle.container.proofs.Answered.{apart, came_from}
 use Rattle.container.proofs.Ranges.{Lies, LiesCounted, LiesSection, counted_lies, lies_more, split, version_lies}
@@ -32,21 +31,6 @@ abbrev AreBytes : List ℕ → Type 0
 AreBytes bytes = All (λ byte. byte < 256) bytes
 
 -- numbers
-
-record Moved (at : ℕ) (m : Result (ℕ × ℕ) FormatFault) (n : ℕ × ℕ) : Type 0 where
-  found : ℕ × ℕ
-  is : m ≡ Ok found
-  number : n.0 ≡ found.0
-  place : n.1 ≡ at + found.1
-
-moved_from : (at : ℕ) (m : Result (ℕ × ℕ) FormatFault) (n : ℕ × ℕ) → moved at m ≡ Ok n → Moved at m n
-moved_from at (Ok r) n is =
-    let e : (r.0, at + r.1) ≡ n = cc in
-    record { found = r; is = refl; number = sym (ap (λ (p : ℕ × ℕ). p.0) e); place = sym (ap (λ (p : ℕ × ℕ). p.1) e) }
-moved_from at (Err f) n is = absurd (no is)
-  where
-    no : {g : FormatFault} → Err g ≡ Ok n → ⊥
-    no is = cc
 
 spells_at : (bytes : List ℕ) (at end k place n next : ℕ) → n ≡ k → next ≡ place → Spells bytes at end k place → Spells bytes at end n next
 spells_at bytes at end k place n next same there s = rw (same, there) s
@@ -68,20 +52,6 @@ number_spelled bytes end at n small order within is =
 
 -- bytes after their length
 
-record SoMany (end : ℕ) (n r : ℕ × ℕ) : Type 0 where
-  fits : n.1 + n.0 ≤ end
-  from : r.0 ≡ n.1
-  to : r.1 ≡ n.1 + n.0
-
-so_many_is : (end : ℕ) (n r : ℕ × ℕ) → so_many end n ≡ Ok r → SoMany end n r
-so_many_is end n r is = elim (cases_lt end (n.1 + n.0)) [
-  | inl long ↦ absurd (apart r (fault end Ended) (sym is ∙ rw (lt-ltb end (n.1 + n.0) long) refl))
-  | inr short ↦
-      let e : Ok (n.1, n.1 + n.0) ≡ so_many end n = rw (not_less end (n.1 + n.0) short) refl in
-      let p : (n.1, n.1 + n.0) ≡ r = cc in
-      record { fits = short; from = sym (ap (λ (q : ℕ × ℕ). q.0) p); to = sym (ap (λ (q : ℕ × ℕ). q.1) p) }
-]
-
 between : (bytes : List ℕ) (at end from to a b : ℕ) → a ≡ from → b ≡ to → LiesCounted bytes at end from to → LiesCounted bytes at end a b
 between bytes at end from to a b first last lies = rw (first, last) lies
 
@@ -94,15 +64,6 @@ counted_spelled bytes end at r small order within is =
     between bytes at end p.0.1 (p.0.1 + p.0.0) r.0 r.1 n.from n.to (counted_lies bytes at end p.0.0 p.0.1 s n.fits within)
 
 -- fixed bytes
-
-shared_is : (bytes : List ℕ) (why : Why) (at count shared next : ℕ) → behind_shared bytes why at count shared ≡ Ok next → (shared ≡ count) × (next ≡ at + count)
-shared_is bytes why at count shared next is = elim (eqb_tells shared count) [
-  | inl p ↦ let e : Ok (at + shared) ≡ behind_shared bytes why at count shared = rw p.0 refl in let q : at + shared ≡ next = cc in (p.1, omega (arith, p.1))
-  | inr p ↦ elim (cases_lt (at + shared) (length bytes)) [
-    | inl some ↦ absurd (apart next (fault (at + shared) why) (sym is ∙ rw (p.0, lt-ltb (at + shared) (length bytes) some) refl))
-    | inr none ↦ absurd (apart next (fault (length bytes) Ended) (sym is ∙ rw (p.0, not_less (at + shared) (length bytes) none) refl))
-  ]
-]
 
 pub fixed_spelled : (bytes due : List ℕ) (why : Why) (at next : ℕ) → at ≤ length bytes → fixed_at bytes due why at ≡ Ok next → Lies bytes at (length bytes) due next
 unfolding fixed_at

@@ -4,6 +4,7 @@ pub mod ByAtoms
 pub mod Counted
 pub mod Entries
 pub mod Fields
+pub mod FirstFault
 pub mod Fixed
 pub mod Fresh
 pub mod LayoutDistinct

@@ -1,24 +1,22 @@
 -- How far a container is read before its tree, and how many bytes lie outside of that.
-use Rattle.std.proofs.Common.{◌≡◌, ℕ, ◌+◌, ◌-◌, ◌≤◌, List, length, refl, sym, ap, ◌∙◌, arith, inl, inr, codes, Option, Result, Ok, Err}
-use Rattle.std.proofs.lemmas.Bool.{cases_lt, lt-ltb}
-use Rattle.std.proofs.lemmas.Bool.Decides.{eqb_tells}
+use Rattle.std.proofs.Common.{◌≡◌, ℕ, ◌-◌, ◌≤◌, List, length, drop, refl, arith, codes, Option, Result, Ok, Err}
 use Rattle.bast_base.specs.declared.errors.FormatFault.{FormatFault}
 use Rattle.bast_base.specs.declared.errors.Why.{Why}
-use Rattle.bast_base.specs.declared.errors.Why.TheVariants.{BadSection, Ended, NotIdentity}
+use Rattle.bast_base.specs.declared.errors.Why.TheVariants.{BadSection, NotIdentity}
 use Rattle.bast_schema.specs.declared.kind.Kind.{Kind}
 use Rattle.var_numbers.specs.VarnumRead.{moved}
-use Rattle.container.specs.Answers.{fault, ◌>>=◌}
+use Rattle.container.specs.Answers.{◌>>=◌}
 use Rattle.container.specs.Clauses.{section_at, whole_table}
 use Rattle.container.specs.Entries.{more_kinds, more_texts}
 use Rattle.container.specs.Layout.{Reached, before_tree, less_content, outside, reach_all, start}
-use Rattle.container.specs.Parts.{behind_shared, counted_at, fixed_at, number_from, so_many}
-use Rattle.container.proofs.Answered.{apart, came_from}
-use Rattle.container.proofs.Counted.{not_less}
+use Rattle.container.specs.Parts.{agreeing, counted_at, fixed_at, number_from, so_many}
+use Rattle.container.proofs.Answered.{came_from}
+use Rattle.container.proofs.Counted.{moved_from, so_many_is}
+use Rattle.container.proofs.Fixed.{shared_is}
 use Rattle.container.proofs.LayoutLemmas.{from_kinds, from_strings, from_texts, from_tree, read}
 
 moved_after : (at : ℕ) (m : Result (ℕ × ℕ) FormatFault) (n : ℕ × ℕ) → moved at m ≡ Ok n → at ≤ n.1
-moved_after at (Ok r) n is = let e : (r.0, at + r.1) ≡ n = cc in let e1 : at + r.1 ≡ n.1 = ap (λ (p : ℕ × ℕ). p.1) e in omega arith
-moved_after at (Err f) n is = cc
+moved_after at m n is = omega (arith, (moved_from at m n is).place)
 
 pub record After (bytes : List ℕ) (at end : ℕ) (r : ℕ × ℕ) : Type 0 where
   pub ahead : at ≤ r.0
@@ -26,15 +24,9 @@ pub record After (bytes : List ℕ) (at end : ℕ) (r : ℕ × ℕ) : Type 0 whe
   pub within : r.1 ≤ end
 
 so_many_after : (end at : ℕ) (n r : ℕ × ℕ) (bytes : List ℕ) → at ≤ n.1 → so_many end n ≡ Ok r → After bytes at end r
-so_many_after end at n r bytes ahead is = elim (cases_lt end (n.1 + n.0)) [
-  | inl long ↦ absurd (apart r (fault end Ended) (sym is ∙ rw (lt-ltb end (n.1 + n.0) long) refl))
-  | inr short ↦
-      let e : Ok (n.1, n.1 + n.0) ≡ so_many end n = rw (not_less end (n.1 + n.0) short) refl in
-      let p : (n.1, n.1 + n.0) ≡ r = cc in
-      let p0 : n.1 ≡ r.0 = ap (λ (q : ℕ × ℕ). q.0) p in
-      let p1 : n.1 + n.0 ≡ r.1 = ap (λ (q : ℕ × ℕ). q.1) p in
-      record { ahead = omega arith; order = omega arith; within = omega arith }
-]
+so_many_after end at n r bytes ahead is =
+    let many = so_many_is end n r is in
+    record { ahead = omega (arith, many.from); order = omega (arith, many.from, many.to); within = omega (arith, many.to, many.fits) }
 
 counted_after : (bytes : List ℕ) (at end : ℕ) (r : ℕ × ℕ) → counted_at bytes end at ≡ Ok r → After bytes at end r
 unfolding counted_at
@@ -42,18 +34,9 @@ counted_after bytes at end r is =
     let p = came_from (number_from bytes end at) (so_many end) r is in
     so_many_after end at p.0 r bytes (moved_after at _ p.0 p.1) p.2
 
-shared_after : (bytes : List ℕ) (why : Why) (at count shared next : ℕ) → behind_shared bytes why at count shared ≡ Ok next → at ≤ next
-shared_after bytes why at count shared next is = elim (eqb_tells shared count) [
-  | inl p ↦ let e : Ok (at + shared) ≡ behind_shared bytes why at count shared = rw p.0 refl in let q : at + shared ≡ next = cc in omega arith
-  | inr p ↦ elim (cases_lt (at + shared) (length bytes)) [
-    | inl some ↦ absurd (apart next (fault (at + shared) why) (sym is ∙ rw (p.0, lt-ltb (at + shared) (length bytes) some) refl))
-    | inr none ↦ absurd (apart next (fault (length bytes) Ended) (sym is ∙ rw (p.0, not_less (at + shared) (length bytes) none) refl))
-  ]
-]
-
 fixed_after : (bytes due : List ℕ) (why : Why) (at next : ℕ) → fixed_at bytes due why at ≡ Ok next → at ≤ next
 unfolding fixed_at
-fixed_after bytes due why at next is = shared_after bytes why at _ _ next is
+fixed_after bytes due why at next is = omega (arith, (shared_is bytes why at (length due) (agreeing due (drop at bytes)) next is).1)
 
 section_after : (bytes title : List ℕ) (at : ℕ) (r : ℕ × ℕ) → section_at bytes title at ≡ Ok r → After bytes at (length bytes) r
 section_after bytes title at r is =

@@ -1,12 +1,14 @@
 -- A container is read as what it is made of.
-use Rattle.std.proofs.Common.{◌≡◌, ℕ, suc, ◌+◌, ◌-◌, ◌<◌, ◌≤◌, ◌^◌, List, [], ◌∷◌, ◌++◌, length, slice_range, codes, Option, Ok, Result, append-nil, append_assoc, length-append, refl, sym, ap, ◌∙◌, arith, lit<}
+use Rattle.std.proofs.Common.{◌≡◌, ℕ, suc, ◌+◌, ◌-◌, ◌<◌, ◌≤◌, ◌^◌, List, [], ◌∷◌, ◌++◌, length, slice_range, codes, Option, Ok, Result, append-nil, append_assoc, length-append, refl, sym, ap, subst, ◌∙◌, arith, lit<}
 use Rattle.std.specs.Prelude.{flat_map}
+use Rattle.std.specs.List.{AllByRecursion, IsDistinct}
 use Rattle.std.proofs.lemmas.Bool.{eq-eqb}
 use Rattle.bast_base.specs.declared.errors.FormatFault.{FormatFault}
 use Rattle.bast_base.specs.declared.errors.Why.{Why}
 use Rattle.bast_base.specs.declared.errors.Why.TheVariants.{BadMagic, BadSection, NotIdentity}
 use Rattle.bast_schema.specs.declared.kind.Kind.{Kind}
-use Rattle.bast_schema.specs.Kinds.{kind_name}
+use Rattle.bast_schema.specs.Kinds.{kind_name, same_kind}
+use Rattle.string_table.specs.Entries.{AreDistinct}
 use Rattle.var_numbers.specs.Varnum.{varnum}
 use Rattle.var_numbers.proofs.RangeLemmas.{only-spelled, range-length}
 use Rattle.var_numbers.proofs.VarnumLemmas.{varnum-nonempty}
@@ -14,6 +16,7 @@ use Rattle.container.specs.declared.layout.Layout.{Layout}
 use Rattle.container.specs.Clauses.{head_at, section_at, whole_table}
 use Rattle.container.specs.Container.{container, counted, entry_bytes, grammar, section, strings}
 use Rattle.container.specs.Entries.{Judge, entries_at, entry_at, more_kinds, more_texts, table_at}
+use Rattle.container.specs.InFile.{IsEntry}
 use Rattle.container.specs.IsContainer.{IsFileOf, layout_in}
 use Rattle.container.specs.Layout.{layout_of}
 use Rattle.container.specs.Parts.{agreeing, counted_at, done_at, fixed_at}
@@ -23,13 +26,13 @@ use Rattle.container.proofs.Fixed.{fixed_stands}
 use Rattle.container.proofs.Fresh.{Fresh, kinds_fresh, texts_fresh}
 use Rattle.container.proofs.LayoutLemmas.{layout_stands}
 use Rattle.container.proofs.Ranges.{range_to_end, split}
-use Rattle.container.proofs.Reached.{behind_head, behind_grammar, behind_kinds, behind_strings, behind_texts, behind_tree}
+use Rattle.container.proofs.Reached.{AtGrammar, AtStrings, AtTree, behind_head, behind_grammar, behind_kinds, behind_strings, behind_texts, behind_tree}
 
 agreeing_own : (xs ys : List ℕ) → agreeing xs (xs ++ ys) ≡ length xs
 agreeing_own [] ys = refl
 agreeing_own (x ∷ xs) ys = rw (eq-eqb x x refl) (ap (λ (n : ℕ). suc n) (agreeing_own xs ys))
 
-fixed_read : (bytes due more : List ℕ) (why : Why) (at : ℕ) → slice_range bytes at (length bytes) ≡ due ++ more → fixed_at bytes due why at ≡ Ok (at + length due)
+pub fixed_read : (bytes due more : List ℕ) (why : Why) (at : ℕ) → slice_range bytes at (length bytes) ≡ due ++ more → fixed_at bytes due why at ≡ Ok (at + length due)
 fixed_read bytes due more why at is =
     fixed_stands bytes due why at (ap (agreeing due) (sym (range_to_end bytes at) ∙ is) ∙ agreeing_own due more)
 
@@ -64,18 +67,18 @@ find bytes at end content more order small few is =
     }
 
 -- a section is found, with what is behind it
-record Section (bytes title : List ℕ) (at : ℕ) (content more : List ℕ) (r : ℕ × ℕ) : Type 0 where
-  is : section_at bytes title at ≡ Ok r
-  order : r.0 ≤ r.1
-  within : r.1 ≤ length bytes
-  long : r.1 ≡ r.0 + length content
-  content_is : slice_range bytes r.0 r.1 ≡ content
-  rest : slice_range bytes r.1 (length bytes) ≡ more
+pub record Section (bytes title : List ℕ) (at : ℕ) (content more : List ℕ) (r : ℕ × ℕ) : Type 0 where
+  pub is : section_at bytes title at ≡ Ok r
+  pub order : r.0 ≤ r.1
+  pub within : r.1 ≤ length bytes
+  pub long : r.1 ≡ r.0 + length content
+  pub content_is : slice_range bytes r.0 r.1 ≡ content
+  pub rest : slice_range bytes r.1 (length bytes) ≡ more
 
-abbrev content_from : List ℕ → ℕ → List ℕ → ℕ
+abbrev pub content_from : List ℕ → ℕ → List ℕ → ℕ
 content_from title at content = at + length title + length (codes "identity;") + length (varnum (length content))
 
-section_read : (bytes title : List ℕ) (at : ℕ) (content more : List ℕ) → at ≤ length bytes → length bytes < 2 ^ 32 → slice_range bytes at (length bytes) ≡ section title content ++ more
+pub section_read : (bytes title : List ℕ) (at : ℕ) (content more : List ℕ) → at ≤ length bytes → length bytes < 2 ^ 32 → slice_range bytes at (length bytes) ≡ section title content ++ more
     → Section bytes title at content more (content_from title at content, content_from title at content + length content)
 section_read bytes title at content more order few is =
     let form = codes "identity;" in
@@ -136,43 +139,91 @@ spanning a b = (a, b)
 same_range : (a b c d : ℕ) → a ≡ c → b ≡ d → spanning a b ≡ spanning c d
 same_range a b c d p q = cc
 
-pub layout_read : (s : Tables) (tree bytes : List ℕ) → IsFileOf s tree bytes → length bytes < 2 ^ 32 → (layout_of bytes ≡ Ok (layout_in s tree bytes)) × (slice_range bytes (length bytes - length tree) (length bytes) ≡ tree)
-unfolding container
-layout_read s tree bytes file few =
+section_length : (title : List ℕ) (at : ℕ) (content : List ℕ) → content_from title at content + length content ≡ at + length (section title content)
+section_length title at content =
+    omega (arith, length-append (title ++ codes "identity;") (counted content), length-append title (codes "identity;"), length-append (varnum (length content)) content)
+
+-- the head was read, and the sections are left
+pub record PastHead (bytes more : List ℕ) (at : ℕ) : Type 0 where
+  pub reached : AtGrammar bytes at
+  pub within : at ≤ length bytes
+  pub rest : slice_range bytes at (length bytes) ≡ more
+
+pub head_passed : (bytes more : List ℕ) → slice_range bytes 0 (length bytes) ≡ codes "BINJS" ++ (varnum 1 ++ more) → PastHead bytes more (length (codes "BINJS") + length (varnum 1))
+head_passed bytes more front =
     let end = length bytes in
+    let magic = codes "BINJS" in
+    let m = split bytes 0 end magic (varnum 1 ++ more) (omega arith) (omega arith) front in
+    let v = split bytes (length magic) end (varnum 1) more m.within (omega arith) m.rest in
+    let head = length magic + length (varnum 1) in
+    let one = only-spelled (slice_range bytes (length magic) end) (length magic) 1 more (lit< tt) m.rest in
+    let at_head : Ok head ≡ head_at bytes = sym (rw (fixed_read bytes magic _ BadMagic 0 front) (version_stands bytes (length magic) 1 head (sym one) refl)) in
+    record { reached = behind_head bytes head at_head; within = v.within; rest = v.rest }
+
+-- the section of kinds was read, and more is left
+pub record PastKinds (bytes : List ℕ) (ks : List Kind) (more : List ℕ) (at : ℕ) : Type 0 where
+  pub reached : AtStrings bytes ks at
+  pub within : at ≤ length bytes
+  pub rest : slice_range bytes at (length bytes) ≡ more
+
+pub kinds_passed : (bytes : List ℕ) (at : ℕ) (ks : List Kind) (more : List ℕ) → AtGrammar bytes at → IsDistinct same_kind ks → at ≤ length bytes → length bytes < 2 ^ 32
+    → slice_range bytes at (length bytes) ≡ section (codes "[GRAMMAR]") (grammar ks) ++ more → PastKinds bytes ks more (at + length (section (codes "[GRAMMAR]") (grammar ks)))
+kinds_passed bytes at ks more reached distinct within few is =
+    let g = section_read bytes (codes "[GRAMMAR]") at (grammar ks) more within few is in
+    let from = content_from (codes "[GRAMMAR]") at (grammar ks) in
+    let to = from + length (grammar ks) in
+    let kinds = table_read more_kinds kind_name bytes from to ks (kinds_fresh [] ks distinct) g.order g.within few g.content_is in
+    subst (λ (p : ℕ). PastKinds bytes ks more p) (section_length (codes "[GRAMMAR]") at (grammar ks))
+    (record { reached = behind_kinds (behind_grammar reached (from, to) (sym g.is)) ks kinds; within = g.within; rest = g.rest })
+
+-- the section of texts was read, and more is left
+pub record PastTexts (bytes : List ℕ) (ks : List Kind) (ts : List (Option (List ℕ))) (more : List ℕ) (at : ℕ) : Type 0 where
+  pub reached : AtTree bytes ks ts at
+  pub within : at ≤ length bytes
+  pub rest : slice_range bytes at (length bytes) ≡ more
+
+pub texts_passed : (bytes : List ℕ) (at : ℕ) (ks : List Kind) (ts : List (Option (List ℕ))) (more : List ℕ) → AtStrings bytes ks at → AreDistinct ts → AllByRecursion IsEntry ts → at ≤ length bytes → length bytes < 2 ^ 32
+    → slice_range bytes at (length bytes) ≡ section (codes "[STRINGS]") (strings ts) ++ more → PastTexts bytes ks ts more (at + length (section (codes "[STRINGS]") (strings ts)))
+texts_passed bytes at ks ts more reached distinct valid within few is =
+    let s = section_read bytes (codes "[STRINGS]") at (strings ts) more within few is in
+    let from = content_from (codes "[STRINGS]") at (strings ts) in
+    let to = from + length (strings ts) in
+    let texts = table_read more_texts entry_bytes bytes from to ts (texts_fresh [] ts distinct valid) s.order s.within few s.content_is in
+    subst (λ (p : ℕ). PastTexts bytes ks ts more p) (section_length (codes "[STRINGS]") at (strings ts))
+    (record { reached = behind_texts (behind_strings reached (from, to) (sym s.is)) ts texts; within = s.within; rest = s.rest })
+
+-- the parts of a container, and what follows it
+pub container_more : (s : Tables) (tree more : List ℕ)
+    → container s tree ++ more ≡ codes "BINJS" ++ (varnum 1 ++ (section (codes "[GRAMMAR]") (grammar s.kinds) ++ (section (codes "[STRINGS]") (strings s.texts) ++ (section (codes "[TREE]") tree ++ more))))
+unfolding container
+container_more s tree more =
     let magic = codes "BINJS" in
     let gs = section (codes "[GRAMMAR]") (grammar s.kinds) in
     let ss = section (codes "[STRINGS]") (strings s.texts) in
     let ts = section (codes "[TREE]") tree in
-    let grouped : (((magic ++ varnum 1) ++ gs) ++ ss) ++ ts ≡ magic ++ (varnum 1 ++ (gs ++ (ss ++ (ts ++ [])))) =
-    append_assoc ((magic ++ varnum 1) ++ gs) ss ts ∙ append_assoc (magic ++ varnum 1) gs (ss ++ ts) ∙ append_assoc magic (varnum 1) (gs ++ (ss ++ ts))
-    ∙ ap (λ (xs : List ℕ). magic ++ (varnum 1 ++ (gs ++ (ss ++ xs)))) (sym (append-nil ts)) in
-    let front : slice_range bytes 0 end ≡ magic ++ (varnum 1 ++ (gs ++ (ss ++ (ts ++ [])))) = range_to_end bytes 0 ∙ file.spelling ∙ grouped in
-    let m = split bytes 0 end magic _ (omega arith) (omega arith) front in
-    let v = split bytes (0 + length magic) end (varnum 1) _ m.within (omega arith) m.rest in
-    let head = 0 + length magic + length (varnum 1) in
-    let one = only-spelled (slice_range bytes (0 + length magic) end) (0 + length magic) 1 _ (lit< tt) m.rest in
-    let at_head : Ok head ≡ head_at bytes = sym (rw (fixed_read bytes magic _ BadMagic 0 front) (version_stands bytes (0 + length magic) 1 head (sym one) refl)) in
-    let g = section_read bytes (codes "[GRAMMAR]") head (grammar s.kinds) (ss ++ (ts ++ [])) v.within few v.rest in
-    let gf = content_from (codes "[GRAMMAR]") head (grammar s.kinds) in
-    let gt = gf + length (grammar s.kinds) in
-    let st = section_read bytes (codes "[STRINGS]") gt (strings s.texts) (ts ++ []) g.within few g.rest in
-    let sf = content_from (codes "[STRINGS]") gt (strings s.texts) in
-    let se = sf + length (strings s.texts) in
-    let t = section_read bytes (codes "[TREE]") se tree [] st.within few st.rest in
-    let tf = content_from (codes "[TREE]") se tree in
+    append_assoc (((magic ++ varnum 1) ++ gs) ++ ss) ts more ∙ append_assoc ((magic ++ varnum 1) ++ gs) ss (ts ++ more) ∙ append_assoc (magic ++ varnum 1) gs (ss ++ (ts ++ more))
+    ∙ append_assoc magic (varnum 1) (gs ++ (ss ++ (ts ++ more)))
+
+pub container_parts : (s : Tables) (tree : List ℕ)
+    → container s tree ≡ codes "BINJS" ++ (varnum 1 ++ (section (codes "[GRAMMAR]") (grammar s.kinds) ++ (section (codes "[STRINGS]") (strings s.texts) ++ (section (codes "[TREE]") tree ++ []))))
+container_parts s tree = sym (append-nil (container s tree)) ∙ container_more s tree []
+
+pub layout_read : (s : Tables) (tree bytes : List ℕ) → IsFileOf s tree bytes → length bytes < 2 ^ 32 → (layout_of bytes ≡ Ok (layout_in s tree bytes)) × (slice_range bytes (length bytes - length tree) (length bytes) ≡ tree)
+layout_read s tree bytes file few =
+    let end = length bytes in
+    let ss = section (codes "[STRINGS]") (strings s.texts) in
+    let ts = section (codes "[TREE]") tree in
+    let at_kinds = head_passed bytes _ (range_to_end bytes 0 ∙ file.spelling ∙ container_parts s tree) in
+    let at_texts = kinds_passed bytes _ s.kinds (ss ++ (ts ++ [])) at_kinds.reached file.distinct_kinds at_kinds.within few at_kinds.rest in
+    let at_tree = texts_passed bytes _ s.kinds s.texts (ts ++ []) at_texts.reached file.distinct_texts file.entries at_texts.within few at_texts.rest in
+    let t = section_read bytes (codes "[TREE]") _ tree [] at_tree.within few at_tree.rest in
+    let tf = content_from (codes "[TREE]") (length (codes "BINJS") + length (varnum 1) + length (section (codes "[GRAMMAR]") (grammar s.kinds)) + length ss) tree in
     let to = tf + length tree in
     let none : end - to ≡ 0 = sym (range-length bytes to end t.within (omega arith)) ∙ ap length t.rest in
     let within : to ≤ end = t.within in
     let last : to ≡ end = omega arith in
     let first : tf ≡ end - length tree = omega arith in
-    let kinds = table_read more_kinds kind_name bytes gf gt s.kinds (kinds_fresh [] s.kinds file.distinct_kinds) g.order g.within few g.content_is in
-    let texts = table_read more_texts entry_bytes bytes sf se s.texts (texts_fresh [] s.texts file.distinct_texts file.entries) st.order st.within few st.content_is in
-    let at_kinds = behind_grammar (behind_head bytes head at_head) (gf, gt) (sym g.is) in
-    let at_strings = behind_kinds at_kinds s.kinds kinds in
-    let at_texts = behind_strings at_strings (sf, se) (sym st.is) in
-    let at_tree = behind_texts at_texts s.texts texts in
-    let whole = behind_tree at_tree (tf, to) (sym t.is) in
+    let whole = behind_tree at_tree.reached (tf, to) (sym t.is) in
     let layout = layout_stands bytes _ whole (done_read end to last) in
     let content : slice_range bytes tf to ≡ tree = t.content_is in (
       layout ∙ ap (λ (p : ℕ × ℕ). Ok (record { kinds = s.kinds; strings = s.texts; from = p.0; to = p.1 })) (same_range tf to (end - length tree) end first last),

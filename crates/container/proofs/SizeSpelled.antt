@@ -90,3 +90,16 @@ mutual
       parts (spelled_at s h (field.Optional Body) d) (spelled_items s h ds) (size_at d) (size_in ds)
       (size_spelled_at s h d (item_type u holes) (field.Optional Body) fit_first (item_window u holes d fit_first))
       (size_spelled_items s h ds u holes (and_second (fits (item_type u holes) d) (items_fit u holes ds) is))
+
+some_values : (d : Datum) → 1 ≤ size_at d
+some_values (child (branch k ds)) = omega arith
+some_values (listed ds) = omega arith
+some_values _ = omega arith
+
+count_within : (ds : Data) → count ds ≤ size_in ds
+count_within none = omega arith
+count_within (more d ds) = omega (arith, some_values d, count_within ds)
+
+-- items are spelled in at least as many bytes as there are
+pub items_long : (s : Tables) (h : Held) (u : Union) (holes : Bool) (ds : Data) → items_fit u holes ds ≡ true → count ds ≤ length (spelled_items s h ds)
+items_long s h u holes ds is = omega (arith, count_within ds, size_spelled_items s h ds u holes is)

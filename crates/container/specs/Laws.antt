@@ -1,11 +1,14 @@
 -- What holds of every container, and of the spelling of every tree.
-use Rattle.std.specs.Prelude.{◌≡◌, ℕ, ◌-◌, ◌<◌, ◌^◌, ◌≤◌, List, length, flat_map, slice_range, Ok, IsTrue}
-use Rattle.std.specs.List.{All}
+use Rattle.std.specs.Prelude.{◌≡◌, ℕ, ◌-◌, ◌<◌, ◌^◌, ◌≤◌, List, ◌++◌, length, flat_map, slice_range, take, Ok, Err, IsTrue}
+use Rattle.std.specs.List.{All, AllByRecursion}
+use Rattle.bast_base.specs.declared.errors.Why.TheVariants.{Ended, Trailing}
 use Rattle.bast_schema.specs.Counts.{size}
 use Rattle.bast_schema.specs.Held.{Held}
 use Rattle.bast_schema.specs.Tree.{Tree, typed}
 use Rattle.container.specs.declared.layout.Layout.{Layout}
+use Rattle.container.specs.Answers.{fault}
 use Rattle.container.specs.Atoms.{atoms}
+use Rattle.container.specs.FixedParts.{IsTold, fixed_parts}
 use Rattle.container.specs.Folded.{folded}
 use Rattle.container.specs.IsContainer.{IsContainer, IsFileOf, layout_in}
 use Rattle.container.specs.Layout.{layout_of}
@@ -26,6 +29,20 @@ IsReadOneWay = (s t : Tables) (x y bytes : List ℕ) → IsFileOf s x bytes → 
 -- bytes of which a layout is read are the container of its tables over the bytes where its tree lies
 abbrev pub LayoutsAreContainers : Type 0
 LayoutsAreContainers = (bytes : List ℕ) (l : Layout) → All (λ byte. byte < 256) bytes → layout_of bytes ≡ Ok l → IsContainer bytes l
+
+-- a container that breaks off is faulty where it does, and nowhere before
+abbrev pub IsToldWhereEnded : Type 0
+IsToldWhereEnded = (s : Tables) (tree bytes : List ℕ) (n : ℕ) → IsFileOf s tree bytes → length bytes < 2 ^ 32 → n < length bytes → layout_of (take n bytes) ≡ Err (fault n Ended)
+
+-- where one of a container's fixed bytes is another, that is its first fault
+abbrev pub IsToldWhereChanged : Type 0
+IsToldWhereChanged = (s : Tables) (tree bytes : List ℕ) → IsFileOf s tree bytes → length bytes < 2 ^ 32 → AllByRecursion (IsTold bytes) (fixed_parts s)
+
+-- bytes after a container are its first fault
+abbrev pub IsToldWhereMore : Type 0
+IsToldWhereMore =
+    (s : Tables) (tree bytes others : List ℕ) → IsFileOf s tree bytes → length (bytes ++ others) < 2 ^ 32 → 0 < length others
+    → layout_of (bytes ++ others) ≡ Err (fault (length bytes) Trailing)
 
 -- A tree is spelled as its atoms, one after another in preorder. The law asks that the contents of each lazy kind are a
 -- window: where they are a node, the spelling of that node is the window's bytes, and its length stands before it.

@@ -3,6 +3,7 @@ pub mod Atoms
 pub mod Clauses
 pub mod Container
 pub mod Entries
+pub mod FixedParts
 pub mod Folded
 pub mod InFile
 pub mod IsContainer

@@ -1,4 +1,4 @@
-ghost use Rattle.container.specs.Laws.{HasByteForEachValue, IsReadBack, IsReadOneWay, IsSpelledByAtoms, LayoutsAreContainers};
+ghost use Rattle.container.specs.Laws.{HasByteForEachValue, IsReadBack, IsReadOneWay, IsSpelledByAtoms, IsToldWhereChanged, IsToldWhereEnded, IsToldWhereMore, LayoutsAreContainers};
 
 /// A container is read as the tables and the tree's bytes that it was written of. It does nothing: its clause is the law.
 pub fn container_is_read_back()
@@ -13,6 +13,22 @@ pub fn container_has_one_reading()
 /// Nothing but a container has a layout. It does nothing: its clause is the law.
 pub fn layouts_are_containers()
     ensures { LayoutsAreContainers }
+{}
+
+/// A container that breaks off is `Ended` where it does, whatever is read before. It does nothing: its clause is the law.
+pub fn container_is_ended_where_it_breaks_off()
+    ensures { IsToldWhereEnded }
+{}
+
+/// Where a byte of `BINJS`, of a section's name or of `identity;` is another, that is a container's first fault. It does
+/// nothing: its clause is the law.
+pub fn changed_byte_is_first_fault()
+    ensures { IsToldWhereChanged }
+{}
+
+/// Bytes after a container are `Trailing` where they begin. It does nothing: its clause is the law.
+pub fn bytes_after_container_are_trailing()
+    ensures { IsToldWhereMore }
 {}
 
 /// A well-typed tree whose lazy contents are windows is spelled as its atoms, one after another. It does nothing: its

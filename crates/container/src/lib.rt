@@ -10,7 +10,8 @@ mod tests;
 mod writing;
 
 pub use laws::{
-    container_has_one_reading, container_is_read_back, layouts_are_containers,
+    bytes_after_container_are_trailing, changed_byte_is_first_fault, container_has_one_reading,
+    container_is_ended_where_it_breaks_off, container_is_read_back, layouts_are_containers,
     trees_are_spelled_by_atoms, trees_have_no_more_values_than_bytes,
 };
 pub use layout::{Layout, read_layout};

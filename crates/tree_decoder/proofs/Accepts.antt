@@ -12,7 +12,6 @@ use Rattle.var_numbers.specs.Pattern.{pattern}
 use Rattle.var_numbers.specs.Varnum.{varnum}
 use Rattle.var_numbers.proofs.PatternLemmas.{pattern-zero, parts_of}
 use Rattle.var_numbers.proofs.RangeLemmas.{range-length, only-spelled}
-use Rattle.var_numbers.proofs.VarnumLemmas.{varnum-nonempty}
 use Rattle.bast_schema.specs.declared.kind.EnumId.{EnumId}
 use Rattle.bast_schema.specs.declared.kind.FieldType.{FieldType}
 use Rattle.bast_schema.specs.declared.kind.FieldType.TheVariants as field
@@ -39,6 +38,7 @@ use Rattle.bast_schema.specs.Eager.{is_eager, is_eager_at, are_eager}
 use Rattle.container.specs.InFile.{has_atom}
 use Rattle.container.specs.Spelled.{framed, spelled, spelled_at, spelled_items, spelled_fields}
 use Rattle.container.specs.Tables.{Tables, kind_place, text_place}
+use Rattle.container.proofs.SizeSpelled.{items_long}
 use Rattle.tree_decoder.specs.Dues.{Due, due, dues, times, below, children, taken}
 use Rattle.container.specs.Answers.{◌>>=◌}
 use Rattle.tree_decoder.specs.Numbers.{number_from, judged, kind_of_number, kind_at, count_at, name_of, label_of, variant_of, choice_at, flag_at, numbered, leaf_at, is_leaf}
@@ -267,35 +267,6 @@ pub not_lazy : (w b c : Bool) → (w ≡ true → (not b && c) ≡ true) → (w 
 not_lazy false b c eager = refl
 not_lazy true true c eager = let h = eager refl in cc
 not_lazy true false c eager = refl
-
--- items are nodes or absent, and have a byte or more
-item_long : (s : Tables) (h : Held) (u : Union) (holes : Bool) (d : Datum) → fits (item_type u holes) d ≡ true → 1 ≤ length (spelled_at s h (field.Optional Body) d)
-item_long s h u holes (child (branch k ds)) e = let some = varnum-nonempty (kind_place s k) in omega (arith, length-append (varnum (kind_place s k)) (spelled_fields s h (fields k) ds))
-item_long s h u holes absent e = varnum-nonempty (kind_place s Null)
-item_long s h u true (listed ds) e = cc
-item_long s h u false (listed ds) e = cc
-item_long s h u true (flag b) e = cc
-item_long s h u false (flag b) e = cc
-item_long s h u true (index n) e = cc
-item_long s h u false (index n) e = cc
-item_long s h u true (whole n) e = cc
-item_long s h u false (whole n) e = cc
-item_long s h u true (name n) e = cc
-item_long s h u false (name n) e = cc
-item_long s h u true no_name e = cc
-item_long s h u false no_name e = cc
-item_long s h u true (choice n) e = cc
-item_long s h u false (choice n) e = cc
-item_long s h u true (window from to) e = cc
-item_long s h u false (window from to) e = cc
-
-items_long : (s : Tables) (h : Held) (u : Union) (holes : Bool) (ds : Data) → items_fit u holes ds ≡ true → count ds ≤ length (spelled_items s h ds)
-items_long s h u holes none e = omega arith
-items_long s h u holes (more d ds) e =
-    let one : 1 ≤ length (spelled_at s h (field.Optional Body) d) = item_long s h u holes d (and_first (fits (item_type u holes) d) (items_fit u holes ds) e) in
-    let others : count ds ≤ length (spelled_items s h ds) = items_long s h u holes ds (and_second (fits (item_type u holes) d) (items_fit u holes ds) e) in
-    let both : length (spelled_at s h (field.Optional Body) d ++ spelled_items s h ds) ≡ length (spelled_at s h (field.Optional Body) d) + length (spelled_items s h ds) = length-append (spelled_at s h (field.Optional Body) d) (spelled_items s h ds) in
-    omega arith
 
 -- ---- trees
 

@@ -8,8 +8,7 @@ use Rattle.bast_schema.specs.declared.kind.FieldType.{FieldType}
 use Rattle.bast_schema.specs.declared.kind.FieldType.TheVariants as field
 use Rattle.bast_schema.specs.Counts.{is_whole, is_whole_at, is_whole_in}
 use Rattle.bast_schema.specs.Fields.{fields, has_lazy, is_lazy_type}
-use Rattle.bast_schema.specs.Tree.{Tree, branch, Datum, child, absent, listed, flag, index, whole, name, no_name, choice, window, Data, none, more, kind_of, is_none, typed, fits, fit, item_type, items_fit}
-use Rattle.bast_schema.specs.Unions.{allowed}
+use Rattle.bast_schema.specs.Tree.{Tree, branch, Datum, child, absent, listed, flag, index, whole, name, no_name, choice, window, Data, none, more, typed, fits, fit, item_type, items_fit}
 use Rattle.bast_schema.proofs.Both.{and_first, and_second, both}
 use Rattle.container.proofs.Values.{child_fits, listed_fits}
 use Rattle.tree_decoder.specs.LazyKinds.{is_eager_kind, first_lazy, kinds_of, kinds_at, kinds_in}

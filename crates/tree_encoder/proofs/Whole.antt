@@ -1,23 +1,21 @@
 -- What was written of a tree is spelled over the tables that it ends with.
-use Rattle.std.proofs.Common.{◌≡◌, ℕ, ◌<◌, ◌≤◌, ◌^◌, Bool, true, false, ◌||◌, not, List, [], ◌∷◌, ◌++◌, length, append-nil, append_assoc, Option, Some, None, Err, refl, sym, ap, ◌∙◌, arith}
+use Rattle.std.proofs.Common.{◌≡◌, ℕ, ◌<◌, ◌≤◌, ◌^◌, Bool, true, false, not, List, [], ◌∷◌, ◌++◌, length, append-nil, append_assoc, Option, Some, Err, refl, sym, ap, ◌∙◌, arith}
 use Rattle.std.specs.Prelude.{flat_map}
-use Rattle.std.specs.List.{list_any}
 use Rattle.std.specs.Option.{unwrap_or}
 use Rattle.std.proofs.lemmas.Bool.{ltb-true}
 use Rattle.bast_schema.specs.declared.kind.Kind.{Kind}
-use Rattle.bast_schema.specs.declared.kind.Kind.TheVariants.{Null}
 use Rattle.bast_schema.specs.declared.kind.Union.{Union}
 use Rattle.bast_schema.specs.declared.kind.FieldType.{FieldType}
 use Rattle.bast_schema.specs.declared.kind.FieldType.TheVariants as field
 use Rattle.bast_schema.specs.declared.kind.Union.TheVariants.{Body}
 use Rattle.bast_schema.specs.Counts.{is_whole, is_whole_at, is_whole_in}
-use Rattle.bast_schema.specs.Fields.{fields, has_lazy, is_lazy_type}
-use Rattle.bast_schema.specs.Held.{Held, text_of}
+use Rattle.bast_schema.specs.Fields.{fields, has_lazy}
+use Rattle.bast_schema.specs.Held.{Held}
 use Rattle.bast_schema.specs.KindTable.{place_of}
 use Rattle.bast_schema.specs.Tree as schema
 use Rattle.bast_schema.specs.Tree.{Tree, branch, Datum, Data, none, more, kind_of, values_of, typed, fits, fit, item_type, items_fit}
 use Rattle.bast_schema.proofs.Both.{and_first, and_second}
-use Rattle.container.specs.Atoms.{Atom, kind, count, flag, index, whole, text, window, chosen, atoms, atoms_of, atoms_of_fields, atoms_of_items}
+use Rattle.container.specs.Atoms.{Atom, kind, count, flag, index, whole, text, window, atoms, atoms_of, atoms_of_fields, atoms_of_items}
 use Rattle.container.specs.Container.{container}
 use Rattle.var_numbers.specs.Varnum.{varnum}
 use Rattle.bast_schema.specs.Eager.{is_eager, is_eager_at, are_eager}
