@@ -30,6 +30,7 @@ abbrev Each : Range → List Due → ℕ → Type 0
 Each r [] at = r.end ≤ at
 Each r (x ∷ ds) at = (v : Datum) × (next : ℕ) × Found r x.type x.depth x.inside at v next × Each r ds next
 
+-- no due is deeper than the place under the deepest node
 abbrev Shallow : List Due → Type 0
 Shallow [] = Unit {0}
 Shallow (x ∷ ds) = (x.depth ≤ 513) × Shallow ds
@@ -58,6 +59,7 @@ split r (t ∷ ts) d w ds at small order each =
 abbrev Ahead : Range → ℕ → Type 0
 Ahead r n = (ds : List Due) (at : ℕ) → at ≤ r.end → r.end + 1 ≤ n + at → Shallow ds → (go r n ds at).fault ≡ None → Each r ds at
 
+-- a due of this depth stands before these at a place, and from each place that lies ahead there are values
 record Here (r : Range) (n d : ℕ) (ds : List Due) (at : ℕ) : Type 0 where
   pub sound : IsSound r
   pub order : at ≤ r.end
@@ -86,7 +88,7 @@ node_value r n u optional d w ds at None m here e clear =
     let enough = here.enough in
     (absent, m, absent_found r u optional d w at m here.sound here.order here.small e, here.ahead ds m moves.within (omega arith) here.shallow clear)
 
--- what is true of an atom, of what it puts and the place after it
+-- no fault is found after an atom, where what it puts stands before these dues
 abbrev NoneAfter : Range → ℕ → List Due → Taken → Type 0
 NoneAfter r n ds y = (go r n (y.puts ++ ds) y.next).fault ≡ None
 
