@@ -14,7 +14,6 @@ use Rattle.binast_run.specs.Answer.{Answer, output}
 use Rattle.binast_run.specs.Result.{AnswersFile, AnswersInput}
 use Rattle.binast_run.specs.Sources.{AnswersSource}
 use Rattle.js_parser.specs.Source.{IsSource}
-use Rattle.scope_facts.specs.Bare.{bare}
 use Rattle.scope_facts.specs.Exact.{exact}
 use Rattle.scope_facts.specs.Renamed.{IsInjective, renamed}
 use Rattle.tree_decoder.specs.Outer.{tree_range}
@@ -57,7 +56,7 @@ pub record IsExactTreeOf (input bytes : List ℕ) (l : Layout) (u : Tree) : Type
   pub number : ℕ → ℕ
   pub source : IsSource input [] texts (Ok tree)
   pub apart : IsInjective number
-  pub is : u ≡ exact l.strings (renamed number (bare tree))
+  pub is : u ≡ exact l.strings (renamed number tree)
   pub same : atoms (held (tree_range bytes l)) u ≡ atoms (texts_held texts) (exact texts tree)
 
 -- what a source is encoded to is read as its tree with exact scopes
