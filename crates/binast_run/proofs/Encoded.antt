@@ -34,12 +34,11 @@ use Rattle.scope_facts.specs.Uses.{is_scope}
 use Rattle.scope_facts.specs.declared.roles.Shape.{Shape}
 use Rattle.scope_facts.specs.declared.roles.Shape.TheVariants as shape
 use Rattle.scope_facts.proofs.BareSame.{bare_of_exact}
-use Rattle.scope_facts.proofs.BareTyped.{bare_typed}
-use Rattle.scope_facts.proofs.ExactOfBare.{exact_of_bare}
 use Rattle.scope_facts.proofs.RenamedExact.{exact_renamed}
 use Rattle.scope_facts.proofs.RenamedTyped.{typed_renamed}
 use Rattle.tree_decoder.specs.LazyKinds.{is_eager_kind, first_lazy, kinds_of, kinds_at, kinds_in}
 use Rattle.tree_decoder.specs.Outer.{tree_range}
+use Rattle.tree_decoder.specs.SameTree.{IsSameTree}
 use Rattle.tree_decoder.specs.Reading.{fault_in, first_fault, tree_fault, IsFileOfScript}
 use Rattle.tree_decoder.specs.WholeReading.{IsWhole, whole}
 use Rattle.tree_decoder.proofs.EagerWhole.{eager_is_whole}
@@ -171,10 +170,10 @@ same_texts texts strings n h = get_is strings (matched texts strings n) ∙ ap e
 -- what the file of a source is read as
 
 record ReadAs (texts : List (Option (List ℕ))) (t : Tree) (l : Layout) (bytes : List ℕ) (u : Tree) : Type 0 where
-  is : u ≡ exact l.strings (renamed (matched texts l.strings) (bare t))
+  is : u ≡ exact l.strings (renamed (matched texts l.strings) t)
   first : first_lazy u ≡ None
-  names : names_hold (is_matched_text texts l.strings) (bare t) ≡ true
-  atoms : atoms (record { texts = l.strings; tape = bytes }) u ≡ atoms (texts_held texts) (exact texts t)
+  names : names_hold (is_matched_text texts l.strings) t ≡ true
+  same : IsSameTree (record { texts = l.strings; tape = bytes }) (texts_held texts) u (exact texts t)
 
 read_as : (texts : List (Option (List ℕ))) (t : Tree) (bytes : List ℕ) (l : Layout) (u : Tree) → All (λ byte. byte < 256) bytes → SourceFacts texts t → InFile bytes (texts_held texts) (exact texts t) → IsFileOfScript bytes l u → ReadAs texts t l bytes u
 read_as texts t bytes l u bytes_small facts file was =
@@ -200,15 +199,13 @@ read_as texts t bytes l u bytes_small facts file was =
     in let u_is : renamed number x ≡ u =
     one_over g made.distinct_texts (renamed number x) u named_x (whole_renamed number x ∙ whole_x)
     (same_tree g g (renamed number x) u (typed_renamed number x ∙ typed_x) was.script.typed named_x in_file.0.named (atoms_x ∙ sym atoms_u))
-    in let plain = bare t
-    in let names_plain : names_hold p plain ≡ true = subst (λ (v : Tree). names_hold p v ≡ true) (bare_of_exact texts t) (names_of_bare p x names_x)
+    in let names : names_hold p t ≡ true = subst (λ (v : Tree). names_hold p v ≡ true) (bare_of_exact texts t ∙ facts.plain) (names_of_bare p x names_x)
     in let apart = matched_apart texts strings facts.distinct
     in record {
-      is = sym u_is ∙ ap (renamed number) (sym (exact_of_bare texts t facts.typed facts.eager))
-          ∙ sym (exact_renamed number apart p texts strings (matched_eval texts strings facts.distinct made.distinct_texts) plain names_plain);
+      is = sym u_is ∙ sym (exact_renamed number apart p texts strings (matched_eval texts strings facts.distinct made.distinct_texts) t names);
       first = lazy_u;
-      names = names_plain;
-      atoms = atoms_u;
+      names = names;
+      same = same_tree g h u x was.script.typed typed_x in_file.0.named file.named atoms_u;
     }
 
 -- and no rule is broken there
@@ -221,16 +218,15 @@ no_more (x ∷ xs) ys e f = absurd cc
 none_found : (strings : List (Option (List ℕ))) (u : Tree) → early strings script u ≡ [] → untrue strings script u ≡ [] → first_violation strings script u ≡ None
 none_found strings u e f = rw (e, f) refl
 
-sound : (texts strings : List (Option (List ℕ))) (t : Tree) → SourceFacts texts t → names_hold (is_matched_text texts strings) (bare t) ≡ true → early texts script t ≡ []
-    → first_violation strings script (exact strings (renamed (matched texts strings) (bare t))) ≡ None
+sound : (texts strings : List (Option (List ℕ))) (t : Tree) → SourceFacts texts t → names_hold (is_matched_text texts strings) t ≡ true → early texts script t ≡ []
+    → first_violation strings script (exact strings (renamed (matched texts strings) t)) ≡ None
 sound texts strings t facts names none_early =
     let number = matched texts strings
-    in let plain = renamed number (bare t)
-    in let typed_plain : typed plain ≡ true = typed_renamed number (bare t) ∙ bare_typed t facts.whole facts.typed
+    in let plain = renamed number t
+    in let typed_plain : typed plain ≡ true = typed_renamed number t ∙ facts.typed
     in let keeps : KeepsTexts number (is_matched_text texts strings) texts strings = λ n h. ap text_among (matched_texts texts strings n h)
-    in let bare_early : early texts script (bare t) ≡ [] = no_more (early texts script t) (early texts script (bare t)) (own_scopes_break_no_rule texts script t facts.typed) none_early
     in let plain_early : early strings script plain ≡ [] =
-    numbers_break_no_rule number (matched_apart texts strings facts.distinct) (is_matched_text texts strings) texts strings keeps script (bare t) names ∙ ap (map (renamed_violation number)) bare_early
+    numbers_break_no_rule number (matched_apart texts strings facts.distinct) (is_matched_text texts strings) texts strings keeps script t names ∙ ap (map (renamed_violation number)) none_early
     in let bare_plain : early strings script (bare plain) ≡ [] = no_more (early strings script plain) (early strings script (bare plain)) (own_scopes_break_no_rule strings script plain typed_plain) plain_early
     in none_found strings (exact strings plain) ((early_of_exact strings script plain typed_plain).there bare_plain) (exact_is_true strings script plain refl typed_plain)
 
@@ -263,7 +259,7 @@ read_back input bytes small e =
         source = e.source;
         apart = matched_apart e.texts l.strings facts.distinct;
         is = as1.is;
-        same = as1.atoms;
+        same = as1.same;
       };
     }
 

@@ -15,10 +15,13 @@ use Rattle.js_parser.specs.Texts.{is_text}
 use Rattle.js_parser.proofs.Accepted.{leaves_tell}
 use Rattle.js_parser.proofs.LeafNames.{names_of}
 use Rattle.js_tokens.specs.declared.kinds.Token.{Token}
-use Rattle.js_tree.specs.Tells.{IsScriptOrDeep}
+use Rattle.js_tree.specs.Nodes.{limited}
 use Rattle.js_tree.proofs.Scripts.{trees_are_scripts}
-use Rattle.js_tree.proofs.Told.{accepted_have_trees}
-use Rattle.js_tree.proofs.TreesHold.{trees_are_whole, trees_are_eager, trees_have_names}
+use Rattle.js_tree.proofs.Sorts.{Is, Safely}
+use Rattle.js_tree.proofs.Told.{accepted_are_safe}
+use Rattle.js_tree.proofs.Trees.{limited_makes}
+use Rattle.js_tree.proofs.TreesHold.{trees_are_whole, trees_are_eager, trees_are_plain, trees_have_names}
+use Rattle.scope_facts.specs.Bare.{bare}
 use Rattle.string_table.specs.Entries.{AreDistinct}
 use Rattle.string_table.proofs.Laws.{AreDistinct-added}
 
@@ -40,6 +43,7 @@ pub record SourceFacts (texts : List (Option (List ℕ))) (t : Tree) : Type 0 wh
   pub typed : typed t ≡ true
   pub whole : is_whole t ≡ true
   pub eager : is_eager t ≡ true
+  pub plain : bare t ≡ t
   pub named : names_hold (is_text texts) t ≡ true
   pub distinct : AreDistinct texts
 
@@ -49,9 +53,10 @@ source_facts input texts t source =
     in let es = source.events
     in record {
       script = trees_are_scripts input source.tokens ls es t source.accepted source.image;
-      typed = child_fits (field.Node (One Script)) t (subst IsScriptOrDeep source.image (accepted_have_trees input source.tokens ls es source.are_tokens (leaves_tell input texts source.tokens ls source.are_leaves) source.accepted));
+      typed = child_fits (field.Node (One Script)) t (subst (Safely (Is (One Script))) source.image (accepted_are_safe limited limited_makes input source.tokens ls es source.are_tokens (leaves_tell input texts source.tokens ls source.are_leaves) source.accepted));
       whole = trees_are_whole ls es t source.image;
       eager = trees_are_eager ls es t source.image;
+      plain = trees_are_plain ls es t source.image;
       named = trees_have_names (is_text texts) ls es t (names_of input texts source.tokens ls source.are_leaves) source.image;
       distinct = subst AreDistinct (sym source.table) (with_texts_distinct input [] source.tokens none_distinct);
     }

@@ -2,17 +2,16 @@
 use Rattle.std.specs.Prelude.{◌≡◌, ℕ, ◌<◌, ◌≤◌, List, [], length, Option, Ok}
 use Rattle.std.specs.List.{All}
 use Rattle.bast_schema.specs.Tree.{Tree}
-use Rattle.container.specs.Atoms.{atoms}
 use Rattle.binast_run.specs.declared.command.Command.{Command}
 use Rattle.binast_run.specs.Answer.{Answer, most_bytes, output}
 use Rattle.binast_run.specs.FileAnswers.{AnswersFile}
 use Rattle.binast_run.specs.Result.{AnswersInput}
 use Rattle.binast_run.specs.Sources.{AnswersSource}
 use Rattle.js_parser.specs.Source.{IsSource}
-use Rattle.scope_facts.specs.Bare.{bare}
 use Rattle.scope_facts.specs.Exact.{exact}
 use Rattle.scope_facts.specs.Renamed.{IsInjective, renamed}
 use Rattle.tree_decoder.specs.FileLaws.{IsSoundFile}
+use Rattle.tree_decoder.specs.SameTree.{IsSameTree}
 use Rattle.tree_decoder.specs.WholeReading.{IsWhole, whole}
 use Rattle.tree_encoder.specs.File.{texts_held}
 
@@ -31,16 +30,16 @@ FilesAreAnsweredExactly =
     (bytes : List ℕ) (text : List (Option (List ℕ)) → Tree → List ℕ) (a : Answer) → length bytes ≤ most_bytes → All (λ byte. byte < 256) bytes
     → AnswersFile bytes text a → IsOutputExactly bytes text a
 
--- The tree is the exact tree of a source's tree, with a file's numbers for its names: it has the kinds, counts, numbers and
--- texts of the exact tree over the source's own texts.
+-- The tree is the exact tree of a source's tree, with a file's numbers for its names: it is the same as the exact tree over
+-- the source's own texts but for these numbers.
 pub record IsExactTreeOf (input bytes : List ℕ) (strings : List (Option (List ℕ))) (u : Tree) : Type 0 where
   pub texts : List (Option (List ℕ))
   pub tree : Tree
   pub number : ℕ → ℕ
   pub source : IsSource input [] texts (Ok tree)
   pub apart : IsInjective number
-  pub is : u ≡ exact strings (renamed number (bare tree))
-  pub same : atoms (record { texts = strings; tape = bytes }) u ≡ atoms (texts_held texts) (exact texts tree)
+  pub is : u ≡ exact strings (renamed number tree)
+  pub same : IsSameTree (record { texts = strings; tape = bytes }) (texts_held texts) u (exact texts tree)
 
 -- the file is read whole, as the exact tree of the source's tree: it breaks no rule, and its scopes say nothing untrue
 pub record IsReadBack (input bytes : List ℕ) : Type 0 where

@@ -1,5 +1,5 @@
 -- Why a text comes to one thing alone.
-use Rattle.std.proofs.Common.{◌≡◌, ℕ, List, [], ◌∷◌, Option, Some, None, Result, Ok, Err, ◌≤◌, ◌<◌, refl, sym, ap, ◌∙◌, subst, length}
+use Rattle.std.proofs.Common.{◌≡◌, ◌↔◌, ℕ, List, [], ◌∷◌, Option, Some, None, Result, Ok, Err, ◌≤◌, ◌<◌, refl, sym, ap, ◌∙◌, subst, length}
 use Rattle.bast_base.specs.declared.errors.NameId.{NameId}
 use Rattle.bast_schema.specs.Tree.{Tree, depth}
 use Rattle.js_machine.specs.Lookahead.{seen}
@@ -7,6 +7,7 @@ use Rattle.js_machine.specs.Machine.{Outcome, Accepted, Stopped, Ends, start}
 use Rattle.js_machine.specs.declared.events.Event.{Event}
 use Rattle.js_machine.specs.declared.stops.Stop.{Stop}
 use Rattle.js_machine.proofs.Ended.{one_end}
+use Rattle.js_parser.proofs.Accepted.{leaves_tell}
 use Rattle.js_parser.specs.Laws.{Answer, uncut, stopped, made, IsAnswer}
 use Rattle.js_parser.specs.Leaves.{AreLeaves, IsLeafOf, Stands, raw_of, text_of, with_texts}
 use Rattle.js_parser.specs.Source.{IsImage, IsSource, IsTokenFault, StopsAt}
@@ -17,10 +18,12 @@ use Rattle.js_tokens.specs.declared.kinds.TokenFault.{TokenFault}
 use Rattle.js_tokens.proofs.OneCut.{one_cut, one_fault, not_both}
 use Rattle.js_tree.specs.Image.{tree_of}
 use Rattle.js_tree.specs.Nodes.{Maker, limited, unlimited}
+use Rattle.js_tree.specs.Tells.{HasTree}
 use Rattle.js_tree.specs.declared.fault.Fault.{Fault}
 use Rattle.js_tree.specs.declared.fault.Fault.TheVariants.{TooDeep}
 use Rattle.js_tree.specs.declared.leaf.Leaf.{Leaf}
 use Rattle.js_tree.proofs.FollowImage.{deep_trees, trees_are_same}
+use Rattle.js_tree.proofs.Told.{accepted_have_trees}
 use Rattle.js_tree.proofs.TreesHold.{trees_are_shallow}
 
 same_tokens : (text : List ℕ) (ts us : List Token) → AreTokens text ts → AreTokens text us → ts ≡ us
@@ -80,16 +83,32 @@ same_steps m n text old new fresh one other p q =
     in let moved = subst (λ ts. AreLeaves text new ts q.leaves) ts (subst (λ es. AreLeaves text es q.tokens q.leaves) (sym table) q.are_leaves)
     in record { table = table; events = es; leaves = same_leaves text new p.tokens p.leaves q.leaves p.are_leaves moved }
 
-pub shallow_source : (text : List ℕ) (old new : List (Option (List ℕ))) (t : Tree) → IsSource text old new (Ok t) → IsImage unlimited text old new (Ok t) × (depth t ≤ 512)
-shallow_source text old new t p = (
-  record { tokens = p.tokens; events = p.events; leaves = p.leaves; are_tokens = p.are_tokens; accepted = p.accepted; table = p.table; are_leaves = p.are_leaves; image = trees_are_same text p.tokens p.leaves p.events t p.accepted p.image },
-  trees_are_shallow p.leaves p.events t p.image,
+-- the image of the same steps and tokens by another maker
+by_maker : (m n : Maker) (text : List ℕ) (old new : List (Option (List ℕ))) (one other : Result Tree Fault) (p : IsImage m text old new one) → tree_of n p.leaves p.events ≡ other → IsImage n text old new other
+by_maker m n text old new one other p image = record { tokens = p.tokens; events = p.events; leaves = p.leaves; are_tokens = p.are_tokens; accepted = p.accepted; table = p.table; are_leaves = p.are_leaves; image = image }
+
+has_tree : (m : Maker) (text : List ℕ) (old new : List (Option (List ℕ))) (one : Result Tree Fault) (p : IsImage m text old new one) → HasTree p.leaves p.events
+has_tree m text old new one p = accepted_have_trees text p.tokens p.leaves p.events p.are_tokens (leaves_tell text new p.tokens p.leaves p.are_leaves) p.accepted
+
+same_image : (r : Result Tree Fault) (t u : Tree) → r ≡ Ok t → r ≡ Ok u → t ≡ u
+same_image r t u e f = cc
+
+pub shallow_source : (text : List ℕ) (old new : List (Option (List ℕ))) (t : Tree) → IsSource text old new (Ok t) ↔ (IsImage unlimited text old new (Ok t) × (depth t ≤ 512))
+shallow_source text old new t = (
+  λ p. (by_maker limited unlimited text old new (Ok t) (Ok t) p (trees_are_same text p.tokens p.leaves p.events t p.accepted p.image), trees_are_shallow p.leaves p.events t p.image),
+  λ p. let has = has_tree unlimited text old new (Ok t) p.0
+      in let same = same_image (tree_of unlimited p.0.leaves p.0.events) has.tree t has.image p.0.image
+      in by_maker unlimited limited text old new (Ok t) (Ok t) p.0 (has.shallow (subst (λ t. depth t ≤ 512) (sym same) p.1) ∙ ap Ok same),
 )
 
-pub deep_source : (text : List ℕ) (old new fresh : List (Option (List ℕ))) (t : Tree) → IsSource text old new (Err TooDeep) → IsImage unlimited text old fresh (Ok t) → 512 < depth t
-deep_source text old new fresh t p q =
-    let s = same_steps limited unlimited text old new fresh (Err TooDeep) (Ok t) p q
-    in deep_trees text p.tokens p.leaves p.events t p.accepted p.image (ap (λ ls. tree_of unlimited ls p.events) s.leaves ∙ ap (tree_of unlimited q.leaves) s.events ∙ q.image)
+pub deep_source : (text : List ℕ) (old new : List (Option (List ℕ))) → IsSource text old new (Err TooDeep) ↔ ((t : Tree) × IsImage unlimited text old new (Ok t) × (512 < depth t))
+deep_source text old new = (
+  λ p. let has = has_tree limited text old new (Err TooDeep) p
+      in (has.tree, by_maker limited unlimited text old new (Err TooDeep) (Ok has.tree) p has.image, deep_trees text p.tokens p.leaves p.events has.tree p.accepted p.image has.image),
+  λ p. let has = has_tree unlimited text old new (Ok p.0) p.1
+      in let same = same_image (tree_of unlimited p.1.leaves p.1.events) has.tree p.0 has.image p.1.image
+      in by_maker unlimited limited text old new (Ok p.0) (Err TooDeep) p.1 (has.deep (subst (λ t. 512 < depth t) (sym same) p.2)),
+)
 
 pub one_tree : (text : List ℕ) (old new fresh : List (Option (List ℕ))) (one other : Result Tree Fault)
     → IsSource text old new one → IsSource text old fresh other → (new ≡ fresh) × (one ≡ other)

@@ -1,5 +1,5 @@
 -- What a text comes to is one.
-use Rattle.std.specs.Prelude.{◌≡◌, ◌≤◌, ◌<◌, ℕ, List, Option, Result, Ok, Err}
+use Rattle.std.specs.Prelude.{◌≡◌, ◌↔◌, ◌≤◌, ◌<◌, ℕ, List, Option, Result, Ok, Err}
 use Rattle.bast_schema.specs.Tree.{Tree, depth}
 use Rattle.js_machine.specs.declared.stops.Stop.{Stop}
 use Rattle.js_parser.specs.Source.{IsImage, IsSource, IsTokenFault, StopsAt}
@@ -29,10 +29,10 @@ abbrev pub HasOneTree : Type 0
 HasOneTree = (text : List ℕ) (old new fresh : List (Option (List ℕ))) (one other : Result Tree Fault)
     → IsSource text old new one → IsSource text old fresh other → (new ≡ fresh) × (one ≡ other)
 
--- the tree of a source is its image without a limit on the depth, and at most 512 deep
+-- a tree is that of a source exactly where it is its image without a limit on the depth, and at most 512 deep
 abbrev pub SourcesAreShallow : Type 0
-SourcesAreShallow = (text : List ℕ) (old new : List (Option (List ℕ))) (t : Tree) → IsSource text old new (Ok t) → IsImage unlimited text old new (Ok t) × (depth t ≤ 512)
+SourcesAreShallow = (text : List ℕ) (old new : List (Option (List ℕ))) (t : Tree) → IsSource text old new (Ok t) ↔ (IsImage unlimited text old new (Ok t) × (depth t ≤ 512))
 
--- a source that is refused for its depth has an image without the limit that is deeper, where it has one
+-- a source is refused for its depth exactly where it has an image without the limit, which is deeper
 abbrev pub RefusedAreDeep : Type 0
-RefusedAreDeep = (text : List ℕ) (old new fresh : List (Option (List ℕ))) (t : Tree) → IsSource text old new (Err TooDeep) → IsImage unlimited text old fresh (Ok t) → 512 < depth t
+RefusedAreDeep = (text : List ℕ) (old new : List (Option (List ℕ))) → IsSource text old new (Err TooDeep) ↔ ((t : Tree) × IsImage unlimited text old new (Ok t) × (512 < depth t))

@@ -8,7 +8,7 @@ pub fn sources_have_one_tree()
     ensures answer { HasOneAnswer }
 {}
 
-/// The limit on the depth changes no tree, and refuses sources alone whose tree is more than 512 deep.
+/// The limit on the depth changes no tree, and refuses exactly the sources whose tree is more than 512 deep.
 pub fn limit_refuses_deep_sources()
     ensures shallow { SourcesAreShallow }
     ensures deep { RefusedAreDeep }

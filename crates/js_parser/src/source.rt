@@ -10,6 +10,7 @@ ghost use Rattle.js_parser.specs.Source.{IsRefused, IsSource, LeavesTable, fault
 ghost use Rattle.js_parser.specs.Texts.{is_text};
 ghost use Rattle.bast_schema.specs.Eager.{is_eager};
 ghost use Rattle.bast_schema.specs.NamesHold.{names_hold};
+ghost use Rattle.scope_facts.specs.Bare.{bare};
 
 use crate::leaves::leaves_of;
 use bast_base::Memory;
@@ -45,6 +46,7 @@ pub fn parse(alloc: Global, text: &str, strings: &mut StringTable) -> Result<Nod
     ensures script { IfOk result (λ tree. kind_of tree ≡ Script) }
     ensures whole { IfOk result (λ tree. is_whole tree ≡ true) }
     ensures eager { IfOk result (λ tree. is_eager tree ≡ true) }
+    ensures plain { IfOk result (λ tree. bare tree ≡ tree) }
     ensures named { IfOk result (λ tree. names_hold (is_text strings.new) tree ≡ true) }
     ensures shallow { IfOk result (λ tree. depth tree ≤ 512) }
     ensures small { IfOk result (λ tree. size tree < 7 * (length text.now + 1)) }

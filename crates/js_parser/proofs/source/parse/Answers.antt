@@ -5,7 +5,7 @@ use Rattle.js_tree.specs.Image.{tree_of}
 use Rattle.js_tree.specs.Nodes.{limited}
 use Rattle.js_tree.proofs.Payments.{trees_are_small}
 use Rattle.js_tree.proofs.Scripts.{trees_are_scripts}
-use Rattle.js_tree.proofs.TreesHold.{trees_are_whole, trees_are_eager, trees_have_names, trees_are_shallow}
+use Rattle.js_tree.proofs.TreesHold.{trees_are_whole, trees_are_eager, trees_are_plain, trees_have_names, trees_are_shallow}
 use Rattle.js_machine.specs.Machine.{Accepted, Ends}
 use Rattle.js_parser.specs.Leaves.{AreLeaves}
 use Rattle.js_tree.specs.Results.{Fails}
@@ -22,6 +22,9 @@ returns-in-Ok-build_tree-clause-whole c = trees_are_whole c.in-Ok-leaves_of.leav
 
 pub returns-in-Ok-build_tree-clause-eager : goal.returns-in-Ok-build_tree-clause-eager
 returns-in-Ok-build_tree-clause-eager c = trees_are_eager c.in-Ok-leaves_of.leaves.items c.deref-3.result.now c.in-Ok-build_tree.tree c.in-Ok-build_tree.ensures
+
+pub returns-in-Ok-build_tree-clause-plain : goal.returns-in-Ok-build_tree-clause-plain
+returns-in-Ok-build_tree-clause-plain c = trees_are_plain c.in-Ok-leaves_of.leaves.items c.deref-3.result.now c.in-Ok-build_tree.tree c.in-Ok-build_tree.ensures
 
 pub returns-in-Ok-build_tree-clause-named : goal.returns-in-Ok-build_tree-clause-named
 returns-in-Ok-build_tree-clause-named c =
