@@ -87,7 +87,7 @@ same_steps m n text old new fresh one other p q =
 by_maker : (m n : Maker) (text : List ℕ) (old new : List (Option (List ℕ))) (one other : Result Tree Fault) (p : IsImage m text old new one) → tree_of n p.leaves p.events ≡ other → IsImage n text old new other
 by_maker m n text old new one other p image = record { tokens = p.tokens; events = p.events; leaves = p.leaves; are_tokens = p.are_tokens; accepted = p.accepted; table = p.table; are_leaves = p.are_leaves; image = image }
 
-has_tree : (m : Maker) (text : List ℕ) (old new : List (Option (List ℕ))) (one : Result Tree Fault) (p : IsImage m text old new one) → HasTree p.leaves p.events
+pub has_tree : (m : Maker) (text : List ℕ) (old new : List (Option (List ℕ))) (one : Result Tree Fault) (p : IsImage m text old new one) → HasTree p.leaves p.events
 has_tree m text old new one p = accepted_have_trees text p.tokens p.leaves p.events p.are_tokens (leaves_tell text new p.tokens p.leaves p.are_leaves) p.accepted
 
 same_image : (r : Result Tree Fault) (t u : Tree) → r ≡ Ok t → r ≡ Ok u → t ≡ u

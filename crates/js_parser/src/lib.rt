@@ -5,7 +5,9 @@ mod laws;
 mod leaves;
 mod source;
 
-pub use laws::{limit_refuses_deep_sources, sources_have_one_tree};
+pub use laws::{
+    limit_refuses_deep_sources, sources_add_texts, sources_have_one_tree, texts_have_an_answer,
+};
 pub use source::{SourceFault, parse};
 
 #[cfg(test)]

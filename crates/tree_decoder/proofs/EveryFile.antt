@@ -127,8 +127,7 @@ sound_is_whole bytes texts t short small sound =
     let none : first_fault bytes ≡ None = in_grammar-accepted bytes h t short small sound.in_file in
     let fine : tree_fault bytes l ≡ None = sym (ap (fault_in bytes) at.is) ∙ none in
     let file = file_there bytes l short small at.is fine in
-    let same = same_there bytes texts t file.0 l small sound at.own file.1 in
-    (
+    let same = same_there bytes texts t file.0 l small sound at.own file.1 in (
       record { layout = l; file = subst (λ (u : Tree). IsFileOfScript bytes l u) (sym same) file.1; texts_are = at.own },
       sound.eager,
       (first_violation_is_least texts script t).sound sound.sound,

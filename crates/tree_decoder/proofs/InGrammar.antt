@@ -29,19 +29,22 @@ read-in_grammar bytes l t few small file whole =
     let made = layout_is_container bytes l small file.container
     in let r = tree_range bytes l
     in let spelt = spelt_by_itself r l.from t file.script
-    in (record {
-      tables = tables l;
-      distinct_kinds = made.distinct_kinds;
-      distinct_texts = made.distinct_texts;
-      entries = made.entries;
-      has_all = spelt.has_all;
-      named = spelt.named;
-      spelling = made.spelling ∙ ap (container (tables l)) file.script.spelled;
-      small = few;
-      script = file.script.kind;
-      typed_whole = both (typed t && is_whole t) (is_unnested t) (both (typed t) (is_whole t) file.script.typed whole) (unnested_script r l.from t file.script whole);
-      shallow = file.script.shallow;
-    }, refl)
+    in (
+      record {
+        tables = tables l;
+        distinct_kinds = made.distinct_kinds;
+        distinct_texts = made.distinct_texts;
+        entries = made.entries;
+        has_all = spelt.has_all;
+        named = spelt.named;
+        spelling = made.spelling ∙ ap (container (tables l)) file.script.spelled;
+        small = few;
+        script = file.script.kind;
+        typed_whole = both (typed t && is_whole t) (is_unnested t) (both (typed t) (is_whole t) file.script.typed whole) (unnested_script r l.from t file.script whole);
+        shallow = file.script.shallow;
+      },
+      refl,
+    )
 
 -- a file in the grammar has no fault
 pub in_grammar-accepted : (bytes : List ℕ) (h : Held) (t : Tree) → length bytes ≤ 8388608 → All (λ byte. byte < 256) bytes → InFile bytes h t → first_fault bytes ≡ None

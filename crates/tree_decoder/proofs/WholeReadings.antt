@@ -40,17 +40,17 @@ same_trees : (bytes : List ℕ) (w v : Whole) → OfTree bytes w → OfTree byte
 same_trees bytes w v p q =
     let same = one_tree_of bytes p.texts q.texts p.tree q.tree p.is q.is
     in p.reading ∙ ap (λ (x : Table). reading_of x p.tree (first_lazy p.tree) (first_violation x script p.tree)) same.0
-        ∙ ap (λ (x : Tree). reading_of q.texts x (first_lazy x) (first_violation q.texts script x)) same.1 ∙ sym q.reading
+    ∙ ap (λ (x : Tree). reading_of q.texts x (first_lazy x) (first_violation q.texts script x)) same.1 ∙ sym q.reading
 
 pub one_whole : (bytes : List ℕ) (w v : Whole) → IsWhole bytes w → IsWhole bytes v → w ≡ v
 one_whole bytes w v p q =
     elim (of_tree_or_fault bytes w p) [
-      inl f ↦ elim (of_tree_or_fault bytes v q) [
-        inl g ↦ f.2 ∙ ap faulty (one_fault f.0 g.0 (sym f.1 ∙ g.1)) ∙ sym g.2
-      | inr t ↦ absurd (faulty_tree bytes f.0 v f.1 t)
+      | inl f ↦ elim (of_tree_or_fault bytes v q) [
+        | inl g ↦ f.2 ∙ ap faulty (one_fault f.0 g.0 (sym f.1 ∙ g.1)) ∙ sym g.2
+        | inr t ↦ absurd (faulty_tree bytes f.0 v f.1 t)
       ]
-    | inr t ↦ elim (of_tree_or_fault bytes v q) [
-        inl g ↦ absurd (faulty_tree bytes g.0 w g.1 t)
-      | inr u ↦ same_trees bytes w v t u
+      | inr t ↦ elim (of_tree_or_fault bytes v q) [
+        | inl g ↦ absurd (faulty_tree bytes g.0 w g.1 t)
+        | inr u ↦ same_trees bytes w v t u
       ]
     ]

@@ -25,7 +25,9 @@ pub enum ReadRefusal {
     Format(FormatFault),
     /// The file is well formed, and this node is its first lazy function. A node counts from 0 in preorder. Functions
     /// whose contents are a window are not read yet.
-    NotYet { node: u32 },
+    NotYet {
+        node: u32,
+    },
     /// A rule does not hold of the tree: the first violation, and the text of its name where it has one.
     Check {
         violation: Violation,

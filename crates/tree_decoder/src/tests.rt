@@ -180,19 +180,19 @@ fn no_node_is_too_deep(rt: HostRuntime) -> Result<(), Fail> {
 }
 
 // `eval("1");`, whose scope tells the direct eval
-const EVAL: &[u8] = b"BINJS\x02[GRAMMAR]identity;\xE4\x0C\x0CScript2AssertedScriptGlobalScope&ExpressionStatement\x1CCallExpression(IdentifierExpression.LiteralStringExpression[STRINGS]identity;\x10\x04\x08eval\x021[TREE]identity;\x1A\0\0\x02\0\x01\x02\x04\x06\x08\0\x02\n\x02";
+const EVAL: &[u8] =
+    b"BINJS\x02[GRAMMAR]identity;\xE4\x0C\x0CScript2AssertedScriptGlobalScope&ExpressionStatement\x1CCallExpression(IdentifierExpression.LiteralStringExpression[STRINGS]identity;\x10\x04\x08eval\x021[TREE]identity;\x1A\0\0\x02\0\x01\x02\x04\x06\x08\0\x02\n\x02";
 
 // the same, whose scope does not tell it
-const UNTOLD_EVAL: &[u8] = b"BINJS\x02[GRAMMAR]identity;\xE4\x0C\x0CScript2AssertedScriptGlobalScope&ExpressionStatement\x1CCallExpression(IdentifierExpression.LiteralStringExpression[STRINGS]identity;\x10\x04\x08eval\x021[TREE]identity;\x1A\0\0\x02\0\0\x02\x04\x06\x08\0\x02\n\x02";
+const UNTOLD_EVAL: &[u8] =
+    b"BINJS\x02[GRAMMAR]identity;\xE4\x0C\x0CScript2AssertedScriptGlobalScope&ExpressionStatement\x1CCallExpression(IdentifierExpression.LiteralStringExpression[STRINGS]identity;\x10\x04\x08eval\x021[TREE]identity;\x1A\0\0\x02\0\0\x02\x04\x06\x08\0\x02\n\x02";
 
 // `function f() {}`, which is lazy
-const LAZY: &[u8] = b"BINJS\x02[GRAMMAR]identity;c\x02\x14\x0CScript2AssertedScriptGlobalScope(AssertedDeclaredName.LazyFunctionDeclaration\"BindingIdentifier FunctionContents,AssertedParameterScope FormalParameters\n_Null AssertedVarScope[STRINGS]identity;\x0E\x04\x02f\x06var[TREE]identity;6\0\0\x02\x02\x04\0\x02\0\0\x02\x06\x08\0\0\x18\n\x0C\0\0\x01\x0E\0\x10\x12\0\0\0";
+const LAZY: &[u8] =
+    b"BINJS\x02[GRAMMAR]identity;c\x02\x14\x0CScript2AssertedScriptGlobalScope(AssertedDeclaredName.LazyFunctionDeclaration\"BindingIdentifier FunctionContents,AssertedParameterScope FormalParameters\n_Null AssertedVarScope[STRINGS]identity;\x0E\x04\x02f\x06var[TREE]identity;6\0\0\x02\x02\x04\0\x02\0\0\x02\x06\x08\0\0\x18\n\x0C\0\0\x01\x0E\0\x10\x12\0\0\0";
 
 // What a file is read as, of which the first thousands of bytes count.
-fn decoded(
-    alloc: Global,
-    file: &[u8],
-) -> Result<Result<(Node, StringTable), ReadRefusal>, Fail> {
+fn decoded(alloc: Global, file: &[u8]) -> Result<Result<(Node, StringTable), ReadRefusal>, Fail> {
     let tape: Tape<Plain> = Tape::from_vec(Vec::from_slice(alloc, &file[..file.len().min(4000)])?);
     let mut steps = Steps::start();
     Ok(decode(alloc, &tape, &mut steps))
@@ -221,7 +221,13 @@ fn whole_files_are_read_or_refused(rt: HostRuntime) -> Result<(), Fail> {
     }
     match decoded(alloc, &EVAL[..100])? {
         Err(ReadRefusal::Format(fault)) => {
-            assert!(rt; fault == FormatFault { at: 100, why: Why::Ended });
+            assert!(rt;
+                fault
+                    == FormatFault {
+                        at: 100,
+                        why: Why::Ended
+                    }
+            );
         }
         _ => return Err(Fail::new("a cut file is not refused")),
     }

@@ -16,7 +16,11 @@ fn list(values: Vec<Value>) -> Value {
 
 /// The entry `var 0`, which is not captured.
 fn entry(alloc: Global) -> Result<Value, Fail> {
-    let fields = vec![in alloc; Value::Name(NameId(0)), Value::Choice(0), Value::Bool(false)]?;
+    let fields = vec![in alloc;
+        Value::Name(NameId(0)),
+        Value::Choice(0),
+        Value::Bool(false),
+    ]?;
     node(Kind::AssertedDeclaredName, fields)
 }
 
