@@ -2,13 +2,16 @@
 use Rattle.std.proofs.Common.{◌≡◌, ℕ, ◌≤◌, true, List, Option, Some, None, Result, Ok, Err, IfOk, IsTrue, refl, subst, sym, ap, ◌∙◌}
 use Rattle.bast_base.specs.declared.errors.FormatFault.{FormatFault}
 use Rattle.bast_schema.specs.Counts.{is_whole, size}
+use Rattle.bast_schema.specs.NamesHold.{names_hold}
 use Rattle.bast_schema.specs.Tree.{Tree, typed}
 use Rattle.tree_decoder.specs.LazyKinds.{first_lazy}
 use Rattle.tree_decoder.specs.Reading.{IsTreeOf}
-use Rattle.tree_decoder.specs.WholeReading.{Decodes, Judges, IsWhole, whole}
+use Rattle.tree_decoder.specs.WholeReading.{is_text_of, Decodes, Judges, IsWhole, whole}
 use Rattle.tree_decoder.specs.declared.files.ReadRefusal.{ReadRefusal}
 use Rattle.tree_decoder.specs.declared.files.ReadRefusal.TheVariants as refusal
+use Rattle.tree_decoder.specs.Outer.{tree_range}
 use Rattle.tree_decoder.proofs.EagerWhole.{eager_is_whole}
+use Rattle.tree_decoder.proofs.Whole.{named_where_stands}
 use Rattle.violations.specs.Violations.{first_violation, script}
 
 abbrev Table : Type 0
@@ -45,3 +48,10 @@ judged_whole bytes texts t r is judged = judged_whole_of texts t is.file.script.
 
 pub judged_typed : (bytes : List ℕ) (texts : Table) (t : Tree) (r : Result (Tree × Table) ReadRefusal) → IsTreeOf bytes texts t → Judges texts t r → IfOk r (λ x. IsTrue (typed x.0))
 judged_typed bytes texts t r is judged = judged_tree texts t (λ u. IsTrue (typed u)) r judged is.file.script.typed
+
+tree_named : (bytes : List ℕ) (texts : Table) (t : Tree) → IsTreeOf bytes texts t → names_hold (is_text_of texts) t ≡ true
+tree_named bytes texts t is = subst (λ (x : Table). names_hold (is_text_of x) t ≡ true) is.texts_are (named_where_stands (tree_range bytes is.layout) t is.file.script.stands)
+
+pub judged_named : (bytes : List ℕ) (texts : Table) (t : Tree) (r : Result (Tree × Table) ReadRefusal) → IsTreeOf bytes texts t → Judges texts t r → IfOk r (λ x. IsTrue (names_hold (is_text_of x.1) x.0))
+judged_named bytes texts t (Ok x) is judged = ap (λ (y : Table). names_hold (is_text_of y) x.0) judged.1 ∙ ap (names_hold (is_text_of texts)) judged.0 ∙ tree_named bytes texts t is
+judged_named bytes texts t (Err e) is judged = tt

@@ -1,5 +1,5 @@
 -- The whole reading of a file. One with a lazy function is refused yet, after its format and before its checks.
-use Rattle.std.specs.Prelude.{◌≡◌, ℕ, List, Option, Some, None, Result, Ok, Err}
+use Rattle.std.specs.Prelude.{◌≡◌, ℕ, Bool, List, Option, Some, None, is_some, get_or, Result, Ok, Err}
 use Rattle.bast_base.specs.declared.errors.FormatFault.{FormatFault}
 use Rattle.bast_schema.specs.Tree.{Tree}
 use Rattle.scope_facts.specs.declared.context.Violation.{Violation}
@@ -22,6 +22,10 @@ IsWhole bytes (faulty f) = first_fault bytes ≡ Some f
 IsWhole bytes (not_yet n) = (texts : List (Option (List ℕ))) × (t : Tree) × IsTreeOf bytes texts t × (first_lazy t ≡ Some n)
 IsWhole bytes (violated texts v) = (t : Tree) × IsTreeOf bytes texts t × (first_lazy t ≡ None) × (first_violation texts script t ≡ Some v)
 IsWhole bytes (whole texts t) = IsTreeOf bytes texts t × (first_lazy t ≡ None) × (first_violation texts script t ≡ None)
+
+-- whether a name is the place of a text
+abbrev pub is_text_of : List (Option (List ℕ)) → ℕ → Bool
+is_text_of texts n = is_some (get_or texts n None)
 
 -- unless memory runs out, the answer is the whole reading; a violation comes with the text of its name
 abbrev pub Decodes : List ℕ → Result (Tree × List (Option (List ℕ))) ReadRefusal → Type 0

@@ -4,7 +4,8 @@ ghost use Rattle.bast_schema.specs.Counts.{is_whole, size};
 ghost use Rattle.bast_schema.specs.Tree.{typed};
 ghost use Rattle.tree_decoder.specs.OuterReading.{outside_windows};
 ghost use Rattle.tree_decoder.specs.Reading.{ReadsFile};
-ghost use Rattle.tree_decoder.specs.WholeReading.{Decodes, IsRefusalOf, Judges};
+ghost use Rattle.bast_schema.specs.NamesHold.{names_hold};
+ghost use Rattle.tree_decoder.specs.WholeReading.{is_text_of, Decodes, IsRefusalOf, Judges};
 
 use crate::lazy_kinds::first_lazy_of;
 use crate::outer::read_outer;
@@ -47,6 +48,7 @@ pub fn decode<L>(
     ensures reads { Decodes tape.now result }
     ensures whole { IfOk result (λ x. IsTrue (is_whole x.0)) }
     ensures typed { IfOk result (λ x. IsTrue (typed x.0)) }
+    ensures named { IfOk result (λ x. IsTrue (names_hold (is_text_of x.1) x.0)) }
     ensures size { IfOk result (λ x. size x.0 ≤ length tape.now) }
     ensures cost { steps.new ≤ steps.old + outside_windows tape.now }
     ensures most { steps.new ≤ steps.old + length tape.now }
