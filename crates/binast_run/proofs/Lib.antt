@@ -11,3 +11,4 @@ pub mod RenamedTree
 pub mod SizeSpelled
 pub mod SourceAnswers
 pub mod SourceFacts
+pub mod SourceThere
