@@ -1,5 +1,5 @@
 -- Each source has an answer.
-use Rattle.std.proofs.Common.{◌≡◌, ℕ, ◌<◌, ◌≤◌, ◌^◌, Bool, true, false, List, [], ◌∷◌, Option, Some, None, Ok, Err, refl, sym, subst, ◌∙◌, length, true≢false, arith, if◌then◌else◌}
+use Rattle.std.proofs.Common.{◌≡◌, ℕ, ◌+◌, ◌≤◌, ◌^◌, Bool, true, false, List, [], ◌∷◌, Option, Some, None, Ok, Err, refl, sym, subst, ◌∙◌, length, true≢false, arith, if◌then◌else◌}
 use Rattle.std.specs.Prelude.{nat_le}
 use Rattle.std.specs.List.{AllByRecursion}
 use Rattle.std.specs.Str.{IsUtf8, is_utf8}
@@ -15,7 +15,7 @@ use Rattle.binast_run.specs.Sources.{AnswersSource, IsSpelled, early_answer, has
 use Rattle.binast_run.proofs.EagerKept.{exact_eager}
 use Rattle.binast_run.proofs.ExactNamed.{exact_kind, names_are}
 use Rattle.binast_run.proofs.SourceFacts.{source_facts}
-use Rattle.container.specs.InFile.{InFile, IsEntry}
+use Rattle.container.specs.InFile.{IsEntry}
 use Rattle.early_errors.specs.Early.{early, first}
 use Rattle.js_machine.specs.declared.stops.Stop.TheVariants.{Syntax, NotHere, TooDeep}
 use Rattle.js_parser.specs.Laws.{Answer, uncut, stopped, made, IsAnswer}
@@ -23,11 +23,11 @@ use Rattle.js_parser.specs.Source.{IsSource}
 use Rattle.js_parser.specs.Texts.{IsText, is_text}
 use Rattle.js_parser.specs.declared.source.SourceFault.TheVariants as source
 use Rattle.js_parser.proofs.AnswerThere.{answer_there, refused_for_depth}
-use Rattle.js_parser.proofs.OneAnswer.{shallow_source}
 use Rattle.js_parser.proofs.TextEntries.{entries_are_texts}
 use Rattle.js_tokens.specs.declared.kinds.Token.{Token}
 use Rattle.js_tokens.proofs.Whole.{heads-few}
 use Rattle.js_tree.proofs.Payments.{trees_are_small}
+use Rattle.js_tree.proofs.TreesHold.{trees_are_shallow}
 use Rattle.scope_facts.specs.declared.context.Violation.{Violation}
 use Rattle.scope_facts.specs.Exact.{eval_name, exact}
 use Rattle.scope_facts.specs.Filled.{filled}
@@ -63,7 +63,7 @@ named_script input texts t utf8 short s =
     in record {
       script = exact_kind texts t ∙ facts.script;
       typed = exact_typed texts t (small_source input texts t utf8 short s) facts.typed;
-      shallow = exact_shallow texts t (shallow_source input [] texts t s).1;
+      shallow = exact_shallow texts t (trees_are_shallow s.leaves s.events t s.image);
       whole = exact_whole texts t facts.whole;
       eager = exact_eager texts t facts.eager;
       named = names_are texts (exact texts t) ∙ exact_names texts t (is_text texts) facts.named;

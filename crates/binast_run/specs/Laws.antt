@@ -20,6 +20,10 @@ use Rattle.tree_encoder.specs.File.{texts_held}
 abbrev pub InputsHaveOneAnswer : Type 0
 InputsHaveOneAnswer = (command : Command) (input : List ℕ) (a b : Answer) → AnswersInput command input a → AnswersInput command input b → a ≡ b
 
+-- a source that is not too long has an answer
+abbrev pub SourcesHaveAnAnswer : Type 0
+SourcesHaveAnAnswer = (input : List ℕ) → length input ≤ most_bytes → (a : Answer) × AnswersSource input a
+
 -- The answer to a file is an output exactly where the file is in the grammar, and spells a tree without lazy functions in
 -- which no rule fails: it is then the output of that tree.
 pub record IsOutputExactly (bytes : List ℕ) (text : List (Option (List ℕ)) → Tree → List ℕ) (a : Answer) : Type 0 where

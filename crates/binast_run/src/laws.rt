@@ -1,9 +1,14 @@
 // What holds of the definitions alone.
-ghost use Rattle.binast_run.specs.Laws.{EncodedFilesAreReadBack, FilesAreAnsweredExactly, InputsHaveOneAnswer};
+ghost use Rattle.binast_run.specs.Laws.{EncodedFilesAreReadBack, FilesAreAnsweredExactly, InputsHaveOneAnswer, SourcesHaveAnAnswer};
 
 /// An input has one answer of each command.
 pub fn inputs_have_one_answer()
     ensures { InputsHaveOneAnswer }
+{}
+
+/// A source that is not too long has an answer.
+pub fn sources_have_an_answer()
+    ensures { SourcesHaveAnAnswer }
 {}
 
 /// The answer to a file is an output exactly where the file is in the grammar of files, and spells a tree without lazy
