@@ -10,3 +10,4 @@ pub mod Outputs
 pub mod RenamedTree
 pub mod SourceAnswers
 pub mod SourceFacts
+pub mod SourceThere

@@ -19,6 +19,10 @@ use Rattle.tree_encoder.specs.File.{texts_held}
 abbrev pub InputsHaveOneAnswer : Type 0
 InputsHaveOneAnswer = (command : Command) (input : List ℕ) (a b : Answer) → AnswersInput command input a → AnswersInput command input b → a ≡ b
 
+-- and it has one, where it is not too long
+abbrev pub InputsHaveAnAnswer : Type 0
+InputsHaveAnAnswer = (command : Command) (input : List ℕ) → length input ≤ most_bytes → All (λ byte. byte < 256) input → (a : Answer) × AnswersInput command input a
+
 -- The answer to a file is an output exactly where the file is in the grammar, and spells a tree without lazy functions in
 -- which no rule fails: it is then the output of that tree.
 pub record IsOutputExactly (bytes : List ℕ) (text : List (Option (List ℕ)) → Tree → List ℕ) (a : Answer) : Type 0 where

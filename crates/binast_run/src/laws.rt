@@ -1,9 +1,10 @@
 // What holds of the definitions alone.
-ghost use Rattle.binast_run.specs.Laws.{EncodedFilesAreReadBack, FilesAreAnsweredExactly, InputsHaveOneAnswer};
+ghost use Rattle.binast_run.specs.Laws.{EncodedFilesAreReadBack, FilesAreAnsweredExactly, InputsHaveAnAnswer, InputsHaveOneAnswer};
 
-/// An input has one answer of each command.
+/// An input has an answer of each command, where it is not too long, and one.
 pub fn inputs_have_one_answer()
-    ensures { InputsHaveOneAnswer }
+    ensures some { InputsHaveAnAnswer }
+    ensures one { InputsHaveOneAnswer }
 {}
 
 /// The answer to a file is an output exactly where the file is in the grammar of files, and spells a tree without lazy
