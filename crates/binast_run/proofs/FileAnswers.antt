@@ -43,6 +43,6 @@ with_tree bytes text (whole texts t) short small is zero = (texts, t, whole_is_s
 
 pub answered_exactly : (bytes : List ℕ) (text : List (Option (List ℕ)) → Tree → List ℕ) (a : Answer) → length bytes ≤ most_bytes → All (λ byte. byte < 256) bytes → AnswersFile bytes text a → IsOutputExactly bytes text a
 answered_exactly bytes text a short small answer = record {
-  output = λ zero. let found = with_tree bytes text answer.0 short small answer.1 (ap (λ (x : Answer). x.status) (sym answer.2) ∙ zero) in (found.0, found.1, found.2, answer.2 ∙ found.3);
+  of_tree = λ zero. let found = with_tree bytes text answer.0 short small answer.1 (ap (λ (x : Answer). x.status) (sym answer.2) ∙ zero) in (found.0, found.1, found.2, answer.2 ∙ found.3);
   only = λ texts t sound. answer.2 ∙ ap (answer_of text) (one_whole bytes answer.0 (whole texts t) answer.1 (sound_is_whole bytes texts t short small sound));
 }

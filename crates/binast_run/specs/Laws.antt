@@ -26,7 +26,7 @@ InputsHaveAnAnswer = (command : Command) (input : List ℕ) → length input ≤
 -- The answer to a file is an output exactly where the file is in the grammar, and spells a tree without lazy functions in
 -- which no rule fails: it is then the output of that tree.
 pub record IsOutputExactly (bytes : List ℕ) (text : List (Option (List ℕ)) → Tree → List ℕ) (a : Answer) : Type 0 where
-  pub output : a.status ≡ 0 → (texts : List (Option (List ℕ))) × (t : Tree) × IsSoundFile bytes texts t × (a ≡ output (text texts t))
+  pub of_tree : a.status ≡ 0 → (texts : List (Option (List ℕ))) × (t : Tree) × IsSoundFile bytes texts t × (a ≡ output (text texts t))
   pub only : (texts : List (Option (List ℕ))) (t : Tree) → IsSoundFile bytes texts t → a ≡ output (text texts t)
 
 abbrev pub FilesAreAnsweredExactly : Type 0
