@@ -1,4 +1,4 @@
-// Trees that no source has: names that are no identifiers, texts that can't be spelled, windows.
+// Trees as a file may hold them: names that are no identifiers, texts that can't be spelled, windows.
 //
 // Each row is what is shown, a tree as words, and its first early error: the rule, the number of the node and the name.
 
