@@ -1,12 +1,11 @@
 -- From what was read of a file to its whole reading.
-use Rattle.std.proofs.Common.{◌≡◌, ℕ, ◌≤◌, true, List, Option, Some, None, Result, Ok, Err, IfOk, IsTrue, refl, subst, sym, ap, ◌∙◌}
-use Rattle.bast_base.specs.declared.errors.FormatFault.{FormatFault}
-use Rattle.bast_schema.specs.Counts.{is_whole, size}
+use Rattle.std.proofs.Common.{◌≡◌, ℕ, true, List, Option, None, Result, Ok, Err, IfOk, IsTrue, subst, sym, ap, ◌∙◌}
+use Rattle.bast_schema.specs.Counts.{is_whole}
 use Rattle.bast_schema.specs.NamesHold.{names_hold}
 use Rattle.bast_schema.specs.Tree.{Tree, typed}
 use Rattle.tree_decoder.specs.LazyKinds.{first_lazy}
 use Rattle.tree_decoder.specs.Reading.{IsTreeOf}
-use Rattle.tree_decoder.specs.WholeReading.{is_text_of, Decodes, Judges, IsWhole, whole}
+use Rattle.tree_decoder.specs.WholeReading.{is_text_of, Decodes, Judges}
 use Rattle.tree_decoder.specs.declared.files.ReadRefusal.{ReadRefusal}
 use Rattle.tree_decoder.specs.declared.files.ReadRefusal.TheVariants as refusal
 use Rattle.tree_decoder.specs.Outer.{tree_range}

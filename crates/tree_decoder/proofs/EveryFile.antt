@@ -1,5 +1,5 @@
 -- Every file has a whole reading, and which files are read as a tree.
-use Rattle.std.proofs.Common.{◌≡◌, ℕ, ◌<◌, ◌≤◌, ◌^◌, ◌&&◌, true, List, length, Option, Some, None, Result, Ok, Err, refl, subst, sym, ap, ◌∙◌, arith}
+use Rattle.std.proofs.Common.{◌≡◌, ℕ, ◌<◌, ◌≤◌, ◌&&◌, true, List, length, Option, Some, None, Result, Ok, Err, refl, subst, sym, ap, ◌∙◌, arith}
 use Rattle.std.specs.List.{All}
 use Rattle.bast_base.specs.declared.errors.FormatFault.{FormatFault}
 use Rattle.bast_schema.specs.Counts.{is_whole}
@@ -7,12 +7,11 @@ use Rattle.bast_schema.specs.Held.{Held}
 use Rattle.bast_schema.specs.Tree.{Tree, typed}
 use Rattle.bast_schema.proofs.Both.{and_first, and_second}
 use Rattle.container.specs.Atoms.{atoms}
-use Rattle.container.specs.InFile.{InFile, is_unnested}
-use Rattle.container.specs.IsContainer.{IsContainer, layout_in, tables}
+use Rattle.container.specs.InFile.{is_unnested}
+use Rattle.container.specs.IsContainer.{layout_in}
 use Rattle.container.specs.Layout.{layout_of}
 use Rattle.container.specs.Named.{named}
 use Rattle.container.specs.Spelled.{spelled}
-use Rattle.container.specs.Tables.{Tables}
 use Rattle.container.specs.declared.layout.Layout.{Layout}
 use Rattle.container.proofs.LayoutDistinct.{layout_distinct}
 use Rattle.container.proofs.LayoutSpelled.{layout_is_container}
@@ -22,7 +21,6 @@ use Rattle.string_table.specs.Entries.{AreDistinct}
 use Rattle.tree_decoder.specs.FileLaws.{IsSoundFile}
 use Rattle.tree_decoder.specs.LazyKinds.{first_lazy}
 use Rattle.tree_decoder.specs.Outer.{tree_range}
-use Rattle.tree_decoder.specs.Range.{IsSound, held}
 use Rattle.tree_decoder.specs.Reading.{fault_in, first_fault, tree_fault, IsFileOfScript, IsTreeOf}
 use Rattle.tree_decoder.specs.WholeReading.{Whole, faulty, not_yet, violated, whole, IsWhole}
 use Rattle.tree_decoder.proofs.EagerWhole.{eager_is_whole}

@@ -1,18 +1,16 @@
 -- A file that is read as a whole tree is in the grammar of files, and a file in the grammar has no fault.
-use Rattle.std.proofs.Common.{◌≡◌, ℕ, ◌<◌, ◌≤◌, ◌^◌, true, ◌&&◌, List, None, length, ap, ◌∙◌, refl, slice_range, arith}
-use Rattle.std.proofs.lemmas.Grind.{common_steps}
+use Rattle.std.proofs.Common.{◌≡◌, ℕ, ◌<◌, ◌≤◌, ◌^◌, true, ◌&&◌, List, None, length, ap, ◌∙◌, refl, arith}
 use Rattle.std.specs.List.{All}
 use Rattle.bast_schema.proofs.Both.{and_first, both}
 use Rattle.bast_schema.specs.Held.{Held}
 use Rattle.bast_schema.specs.Counts.{is_whole}
 use Rattle.bast_schema.specs.Tree.{Tree, typed}
-use Rattle.container.specs.Container.{container, entry_bytes}
+use Rattle.container.specs.Container.{container}
 use Rattle.container.specs.InFile.{InFile, is_unnested}
-use Rattle.container.specs.IsContainer.{IsContainer, IsFileOf, layout_in, tables}
+use Rattle.container.specs.IsContainer.{IsFileOf, layout_in, tables}
 use Rattle.container.specs.Spelled.{spelled}
-use Rattle.container.specs.Tables.{Tables}
 use Rattle.container.proofs.LayoutSpelled.{layout_is_container}
-use Rattle.container.proofs.ReadBack.{few_entries, layout_read}
+use Rattle.container.proofs.ReadBack.{layout_read}
 use Rattle.container.specs.declared.layout.Layout.{Layout}
 use Rattle.tree_decoder.specs.Outer.{tree_range}
 use Rattle.tree_decoder.specs.Range.{IsSound}

@@ -1,5 +1,5 @@
 -- Lists of violations that go along the nodes of a tree.
-use Rattle.std.proofs.Common.{◌≡◌, ◌⊎◌, ℕ, ◌<◌, ◌≤◌, List, [], ◌∷◌, ◌++◌, inl, inr, arith}
+use Rattle.std.proofs.Common.{ℕ, ◌<◌, ◌≤◌, List, [], ◌∷◌, ◌++◌, inl, arith}
 use Rattle.std.specs.List.{AllByRecursion}
 use Rattle.scope_facts.specs.declared.context.Violation.{Violation}
 use Rattle.violations.specs.Violations.{NotAfter}

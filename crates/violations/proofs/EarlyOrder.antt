@@ -1,10 +1,10 @@
 -- The early errors of a tree go along its nodes, and at each node along the rules.
-use Rattle.std.proofs.Common.{◌≡◌, ◌⊎◌, ℕ, zero, suc, ◌+◌, ◌<◌, ◌≤◌, ◌&&◌, Bool, true, false, List, [], ◌∷◌, ◌++◌, map, Option, Some, None, inl, inr, refl, ap, subst, sym, ◌∙◌, flat_map, filter_map, nat_le, arith}
+use Rattle.std.proofs.Common.{◌≡◌, ℕ, zero, suc, ◌+◌, ◌≤◌, ◌&&◌, Bool, true, List, [], ◌∷◌, map, Option, Some, None, inr, refl, ap, subst, sym, ◌∙◌, flat_map, filter_map, nat_le, arith}
 use Rattle.std.specs.List.{AllByRecursion, cons_option}
 use Rattle.std.proofs.lemmas.Bool.{leb-true}
 use Rattle.bast_schema.specs.Tree.{Tree, nodes}
 use Rattle.bast_schema.proofs.Both.{and_first, and_second}
-use Rattle.early_errors.specs.Around.{Around, Site, sites, start}
+use Rattle.early_errors.specs.Around.{Site, sites, start}
 use Rattle.early_errors.specs.Early.{early, early_rules, broken, found_at, violation}
 use Rattle.early_errors.specs.Preorder.{numbers_from}
 use Rattle.early_errors.specs.Reading.{reading}

@@ -1,17 +1,17 @@
 -- The first violation of two lists is the least of both.
-use Rattle.std.proofs.Common.{◌≡◌, ◌⊎◌, ℕ, zero, suc, ◌+◌, ◌<◌, ◌≤◌, Bool, true, false, List, [], ◌∷◌, length, Option, Some, None, IfSome, inl, inr, refl, ap, subst, sym, ◌∙◌, nat_lt, eq-or-lt_of_le, arith, lit≤, if◌then◌else◌}
-use Rattle.std.specs.List.{AllByRecursion, Contains}
+use Rattle.std.proofs.Common.{◌≡◌, ◌⊎◌, ℕ, ◌+◌, ◌<◌, ◌≤◌, Bool, true, false, List, [], ◌∷◌, Option, Some, None, IfSome, inl, inr, refl, ◌∙◌, nat_lt, eq-or-lt_of_le, arith, lit≤, if◌then◌else◌}
+use Rattle.std.specs.List.{Contains}
 use Rattle.std.proofs.lemmas.Bool.{ltb-false, ltb-true}
-use Rattle.std.proofs.lemmas.List.Elements.{All-contains, All-from_recursion, Contains-get_or}
+use Rattle.std.proofs.lemmas.List.Elements.{All-contains, All-from_recursion}
 use Rattle.bast_schema.specs.Tree.{Tree, nodes}
 use Rattle.early_errors.specs.Early.{early, first}
 use Rattle.scope_check.specs.Untrue.{untrue}
 use Rattle.scope_facts.specs.declared.context.Ctx.{Ctx}
 use Rattle.scope_facts.specs.declared.context.Rule.TheVariants.{E18, A1}
 use Rattle.scope_facts.specs.declared.context.Violation.{Violation}
-use Rattle.violations.specs.Laws.{FirstIsLeast, IsLeast, IsSound}
-use Rattle.violations.specs.Violations.{IsViolation, NotAfter, earlier, first_violation, place_of, sooner}
-use Rattle.violations.proofs.Along.{Along, Between, Led}
+use Rattle.violations.specs.Laws.{FirstIsLeast, IsLeast}
+use Rattle.violations.specs.Violations.{NotAfter, earlier, first_violation, place_of}
+use Rattle.violations.proofs.Along.{Between, Led}
 use Rattle.violations.proofs.EarlyOrder.{early_along, IsEarly}
 use Rattle.violations.proofs.UntrueOrder.{untrue_along, IsUntrue}
 

@@ -1,6 +1,5 @@
 -- The untrue places of a tree go along its nodes.
-use Rattle.std.proofs.Common.{◌≡◌, ◌⊎◌, ℕ, suc, ◌+◌, ◌<◌, ◌≤◌, ◌&&◌, not, Bool, true, false, cond, List, [], ◌∷◌, ◌++◌, Option, inl, inr, refl, arith, lit≤, if◌then◌else◌}
-use Rattle.bast_schema.specs.declared.kind.Kind.{Kind}
+use Rattle.std.proofs.Common.{ℕ, ◌+◌, ◌≤◌, ◌&&◌, not, Bool, true, false, List, [], ◌∷◌, ◌++◌, Option, inr, refl, arith, lit≤, if◌then◌else◌}
 use Rattle.bast_schema.specs.Tree.{Tree, branch, Datum, child, absent, listed, flag, index, whole, name, no_name, choice, window, Data, none, more, nodes, nodes_at, nodes_in}
 use Rattle.scope_facts.specs.declared.context.Ctx.{Ctx}
 use Rattle.scope_facts.specs.declared.context.Rule.{Rule}
@@ -18,7 +17,7 @@ use Rattle.scope_check.specs.declared.finding.Finding.{Finding}
 use Rattle.scope_check.specs.declared.finding.Finding.TheVariants.{Fine, Wrong}
 use Rattle.scope_check.specs.Entries.{scope_says}
 use Rattle.scope_check.specs.Untrue.{untrue, untrue_use, untrue_eval, untrue_scope, untrue_from, untrue_at, untrue_in, untrue_among, violation, found, entries_rule, frames_inside, all_tell}
-use Rattle.violations.specs.Violations.{NotAfter, place_of}
+use Rattle.violations.specs.Violations.{place_of}
 use Rattle.violations.proofs.Along.{Along, joined, nowhere, widened}
 
 -- by one of the rules on what scopes say
