@@ -22,7 +22,5 @@ mod tests;
 
 pub use gate::{Gate, Idle};
 pub use in_memory::run_in_memory;
-pub use laws::{
-    encoded_files_are_read_back, files_are_answered_exactly, inputs_have_one_answer,
-};
+pub use laws::{encoded_files_are_read_back, files_are_answered_exactly, inputs_have_one_answer};
 pub use program::run;
