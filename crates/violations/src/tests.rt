@@ -1,6 +1,6 @@
 use super::*;
 use bast_base::NameId;
-use bast_schema::{Kind, Node, Value, Values};
+use bast_schema::{Kind, Node, Value, Values, values_left};
 use scope_facts::{Ctx, Rule, Violation};
 use std::alloc::Global;
 use std::test::Fail;
@@ -37,18 +37,45 @@ fn stray_break(alloc: Global) -> Result<Value, Fail> {
     node(Kind::BreakStatement, vec![in alloc; Value::NoName]?)
 }
 
-fn is_at(found: Option<Violation>, node: u32, rule: Rule) -> bool {
+/// The first violation of a script, where its tree is small.
+fn first_of(alloc: Global, tree: &Node, strings: &StringTable) -> Option<Option<Violation>> {
+    let _left = values_left(tree, 1000)?;
+    first_violation(alloc, tree, &Ctx::script(alloc), strings).ok()
+}
+
+fn is_at(found: Option<Option<Violation>>, node: u32, rule: Rule) -> bool {
     match found {
-        Some(found) => found.node == node && found.rule == rule,
-        None => false,
+        Some(Some(found)) => found.node == node && found.rule == rule,
+        _ => false,
     }
 }
 
-fn is_named(found: Option<Violation>, strings: &StringTable, name: Option<&str>) -> bool {
+fn is_named(found: Option<Option<Violation>>, strings: &StringTable, name: Option<&str>) -> bool {
     match found {
-        Some(found) => name_of(&found, strings) == name,
-        None => false,
+        Some(Some(found)) => name_of(&found, strings) == name,
+        _ => false,
     }
+}
+
+#[test]
+fn a_sound_script_has_none(rt: HostRuntime) -> Result<(), Fail> {
+    let alloc = rt.alloc();
+    let strings = StringTable::new(alloc);
+    let tree = script(alloc, Vec::new(alloc), Vec::new(alloc))?;
+    assert!(rt; matches!(first_of(alloc, &tree, &strings), Some(None)));
+    Ok(())
+}
+
+#[test]
+fn an_early_error_is_told(rt: HostRuntime) -> Result<(), Fail> {
+    let alloc = rt.alloc();
+    let strings = StringTable::new(alloc);
+    let statements = vec![in alloc; stray_break(alloc)?]?;
+    let tree = script(alloc, Vec::new(alloc), statements)?;
+    let found = first_of(alloc, &tree, &strings);
+    assert!(rt; is_at(found, 2, Rule::E11));
+    assert!(rt; is_named(found, &strings, None));
+    Ok(())
 }
 
 #[test]
@@ -56,20 +83,10 @@ fn the_first_is_of_the_lesser_node(rt: HostRuntime) -> Result<(), Fail> {
     let alloc = rt.alloc();
     let mut strings = StringTable::new(alloc);
     let _ = strings.intern("x")?;
-    let around = Ctx::script(alloc);
-
-    let sound = script(alloc, Vec::new(alloc), Vec::new(alloc))?;
-    assert!(rt; first_violation(alloc, &sound, &around, &strings)?.is_none());
-
-    let early = script(alloc, Vec::new(alloc), vec![in alloc; stray_break(alloc)?]?)?;
-    let found = first_violation(alloc, &early, &around, &strings)?;
-    assert!(rt; is_at(found, 2, Rule::E11));
-    assert!(rt; is_named(found, &strings, None));
-
     let entries = vec![in alloc; entry(alloc)?]?;
     let statements = vec![in alloc; stray_break(alloc)?]?;
-    let both = script(alloc, entries, statements)?;
-    let found = first_violation(alloc, &both, &around, &strings)?;
+    let tree = script(alloc, entries, statements)?;
+    let found = first_of(alloc, &tree, &strings);
     assert!(rt; is_at(found, 1, Rule::A1));
     assert!(rt; is_named(found, &strings, Some("x")));
     Ok(())
