@@ -1,22 +1,22 @@
 -- A tree is spelled as its atoms, one after another.
-use Rattle.std.proofs.Common.{◌≡◌, ℕ, Bool, true, false, not, ◌&&◌, ◌||◌, List, [], ◌∷◌, ◌++◌, append-nil, refl, sym, ap, ◌∙◌, None}
+use Rattle.std.proofs.Common.{◌≡◌, ℕ, Bool, true, false, not, ◌&&◌, ◌||◌, List, [], ◌∷◌, ◌++◌, append-nil, refl, sym, ap, ◌∙◌}
 use Rattle.std.specs.Prelude.{flat_map}
 use Rattle.std.specs.List.{list_any}
 use Rattle.std.proofs.lemmas.Grind.{flat_map-append}
-use Rattle.bast_schema.specs.declared.kind.Kind.TheVariants.{Null}
 use Rattle.bast_schema.specs.declared.kind.FieldType.{FieldType}
 use Rattle.bast_schema.specs.declared.kind.FieldType.TheVariants as field
 use Rattle.bast_schema.specs.declared.kind.Union.{Union}
 use Rattle.bast_schema.specs.declared.kind.Union.TheVariants.{Body}
 use Rattle.bast_schema.specs.Eager.{is_eager, is_eager_at, are_eager}
 use Rattle.bast_schema.specs.Fields.{fields, has_lazy, is_lazy_type}
-use Rattle.bast_schema.specs.Held.{Held, text_of, bytes_of}
+use Rattle.bast_schema.specs.Held.{Held, bytes_of}
 use Rattle.bast_schema.specs.Tree as tree
 use Rattle.bast_schema.specs.Tree.{Tree, Datum, Data, branch, none, more, typed, fits, fit, item_type, items_fit}
-use Rattle.bast_schema.proofs.Both.{and_first, and_second}
+use Rattle.bast_schema.proofs.Both.{and_first, and_second, both}
 use Rattle.var_numbers.specs.Varnum.{varnum}
-use Rattle.container.specs.Atoms.{Atom, kind, flag, index, whole, text, window, chosen, atoms, atoms_of, atoms_of_fields, atoms_of_items}
+use Rattle.container.specs.Atoms.{Atom, window, atoms, atoms_of, atoms_of_fields, atoms_of_items}
 use Rattle.container.specs.Folded.{is_folded, folded, folded_at, folded_fields, folded_items}
+use Rattle.container.specs.InFile.{is_unnested, is_unnested_at, are_unnested, are_unnested_fields}
 use Rattle.container.specs.Spelled.{framed, spelled, spelled_at, spelled_fields, spelled_items}
 use Rattle.container.specs.SpelledAtom.{spelled_atom}
 use Rattle.container.specs.Tables.{Tables, kind_place}
@@ -68,14 +68,8 @@ mutual
   value_by_atoms s h (tree.listed ds) f g is shut other =
       let items = listed_fits f ds is in
       ap (λ (rest : List ℕ). varnum (tree.count ds) ++ rest) (items_by_atoms s h ds items.0 items.1 items.2 shut)
-  value_by_atoms s h tree.absent f g is shut other = alone s (kind Null)
-  value_by_atoms s h (tree.flag b) f g is shut other = alone s (flag b)
-  value_by_atoms s h (tree.index n) f g is shut other = alone s (index n)
-  value_by_atoms s h (tree.whole n) f g is shut other = alone s (whole n)
-  value_by_atoms s h (tree.name n) f g is shut other = alone s (text (text_of h n))
-  value_by_atoms s h tree.no_name f g is shut other = alone s (text None)
-  value_by_atoms s h (tree.choice n) f g is shut other = alone s (text (chosen g n))
   value_by_atoms s h (tree.window from to) f g is shut other = cc
+  value_by_atoms s h _ f g is shut other = sym (append-nil _)
 
   items_by_atoms : (s : Tables) (h : Held) (ds : Data) (u : Union) (holes : Bool) → items_fit u holes ds ≡ true → folded_items ds ≡ true → spelled_items s h ds ≡ spelled_atoms s (atoms_of_items h ds)
   items_by_atoms s h none u holes is shut = refl
@@ -122,4 +116,26 @@ mutual
 
   eager_items : (ds : Data) → are_eager ds ≡ true → folded_items ds ≡ true
   eager_items none eager = refl
-  eager_items (more d ds) eager = all_three true (folded_at d) (folded_items ds) refl (eager_value d (and_first (is_eager_at d) (are_eager ds) eager)) (eager_items ds (and_second (is_eager_at d) (are_eager ds) eager))
+  eager_items (more d ds) eager = both (folded_at d) (folded_items ds) (eager_value d (and_first (is_eager_at d) (are_eager ds) eager)) (eager_items ds (and_second (is_eager_at d) (are_eager ds) eager))
+
+-- and no lazy kind stands inside another
+mutual
+  pub eager_is_unnested : (t : Tree) → is_eager t ≡ true → is_unnested t ≡ true
+  eager_is_unnested (branch k ds) e = unnested_fields (fields k) ds (and_second (not (has_lazy k)) (are_eager ds) e)
+
+  unnested_at : (t : FieldType) (d : Datum) → is_eager_at d ≡ true → is_unnested_at t d ≡ true
+  unnested_at (field.Lazy u) d e = e
+  unnested_at t (tree.child c) e = eager_is_unnested c e
+  unnested_at t (tree.listed ds) e = unnested_items ds e
+  unnested_at t _ e = refl
+
+  unnested_fields : (ts : List FieldType) (ds : Data) → are_eager ds ≡ true → are_unnested_fields ts ds ≡ true
+  unnested_fields [] ds e = refl
+  unnested_fields (t ∷ ts) none e = refl
+  unnested_fields (t ∷ ts) (more d ds) e =
+      both (is_unnested_at t d) (are_unnested_fields ts ds) (unnested_at t d (and_first (is_eager_at d) (are_eager ds) e)) (unnested_fields ts ds (and_second (is_eager_at d) (are_eager ds) e))
+
+  unnested_items : (ds : Data) → are_eager ds ≡ true → are_unnested ds ≡ true
+  unnested_items none e = refl
+  unnested_items (more d ds) e =
+      both (is_unnested_at (field.Optional Body) d) (are_unnested ds) (unnested_at (field.Optional Body) d (and_first (is_eager_at d) (are_eager ds) e)) (unnested_items ds (and_second (is_eager_at d) (are_eager ds) e))

@@ -22,16 +22,7 @@ use Rattle.container.proofs.Values.{child_fits, is_window, item_window, listed_f
 -- a frame only adds bytes
 framed_more : (f : FieldType) (bytes : List ℕ) → length bytes ≤ length (framed f bytes)
 framed_more (field.Lazy u) bytes = omega (arith, length-append (varnum (length bytes)) bytes)
-framed_more (field.Node u) bytes = omega arith
-framed_more (field.Optional u) bytes = omega arith
-framed_more (field.List u holes filled) bytes = omega arith
-framed_more field.Bool bytes = omega arith
-framed_more field.Index bytes = omega arith
-framed_more field.Whole bytes = omega arith
-framed_more field.Text bytes = omega arith
-framed_more field.Name bytes = omega arith
-framed_more field.Label bytes = omega arith
-framed_more (field.Choice set) bytes = omega arith
+framed_more _ bytes = omega arith
 
 -- two parts of a spelling, with a value for each of some of their bytes
 parts : (xs ys : List ℕ) (m n : ℕ) → m ≤ length xs → n ≤ length ys → m + n ≤ length (xs ++ ys)
@@ -45,15 +36,7 @@ framed_size : (s : Tables) (h : Held) (d : Datum) (f : FieldType) → fits f d �
 framed_size s h (window from to) (field.Lazy u) is rest =
     omega (arith, length-append (varnum (length (bytes_of h from to))) (bytes_of h from to), varnum-nonempty (length (bytes_of h from to)))
 framed_size s h (window from to) _ is rest = cc
-framed_size s h (child t) f is rest = omega (arith, rest refl, framed_more f (spelled_at s h f (child t)))
-framed_size s h (listed ds) f is rest = omega (arith, rest refl, framed_more f (spelled_at s h f (listed ds)))
-framed_size s h absent f is rest = omega (arith, rest refl, framed_more f (spelled_at s h f absent))
-framed_size s h (flag b) f is rest = omega (arith, rest refl, framed_more f (spelled_at s h f (flag b)))
-framed_size s h (index n) f is rest = omega (arith, rest refl, framed_more f (spelled_at s h f (index n)))
-framed_size s h (whole n) f is rest = omega (arith, rest refl, framed_more f (spelled_at s h f (whole n)))
-framed_size s h (name n) f is rest = omega (arith, rest refl, framed_more f (spelled_at s h f (name n)))
-framed_size s h no_name f is rest = omega (arith, rest refl, framed_more f (spelled_at s h f no_name))
-framed_size s h (choice n) f is rest = omega (arith, rest refl, framed_more f (spelled_at s h f (choice n)))
+framed_size s h d f is rest = omega (arith, rest refl, framed_more f (spelled_at s h f d))
 
 mutual
   pub size_spelled : (s : Tables) (h : Held) (t : Tree) → typed t ≡ true → size t ≤ length (spelled s h t)

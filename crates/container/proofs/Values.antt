@@ -1,10 +1,10 @@
 -- What a value that fits its type is.
-use Rattle.std.proofs.Common.{◌≡◌, Bool, true, false, not, ◌||◌, refl}
+use Rattle.std.proofs.Common.{◌≡◌, ℕ, Bool, true, false, not, ◌||◌, refl}
 use Rattle.bast_schema.specs.declared.kind.Union.{Union}
 use Rattle.bast_schema.specs.declared.kind.FieldType.{FieldType}
 use Rattle.bast_schema.specs.declared.kind.FieldType.TheVariants as field
 use Rattle.bast_schema.specs.Fields.{is_lazy_type}
-use Rattle.bast_schema.specs.Tree.{Tree, Datum, child, absent, listed, flag, index, whole, name, no_name, choice, window, Data, kind_of, is_none, typed, fits, item_type, items_fit}
+use Rattle.bast_schema.specs.Tree.{Tree, Datum, child, listed, window, Data, kind_of, is_none, typed, fits, item_type, items_fit}
 use Rattle.bast_schema.specs.Unions.{allowed}
 use Rattle.bast_schema.proofs.Both.{and_second}
 use Rattle.container.specs.Folded.{is_folded}
@@ -29,31 +29,19 @@ is_window _ = false
 pub item_window : (u : Union) (holes : Bool) (d : Datum) → fits (item_type u holes) d ≡ true → is_window d ≡ false
 item_window u true (window from to) is = cc
 item_window u false (window from to) is = cc
-item_window u holes (child t) is = refl
-item_window u holes (listed ds) is = refl
-item_window u holes absent is = refl
-item_window u holes (flag b) is = refl
-item_window u holes (index n) is = refl
-item_window u holes (whole n) is = refl
-item_window u holes (name n) is = refl
-item_window u holes no_name is = refl
-item_window u holes (choice n) is = refl
+item_window u holes _ is = refl
 
 -- in a lazy field stands a window, or a node
 pub folded_lazy : (f : FieldType) (d : Datum) → fits f d ≡ true → is_folded f d ≡ true → is_window d ≡ false → is_lazy_type f ≡ false
-folded_lazy (field.Lazy u) d is plain other = lazy d is plain other
-  where
-    lazy : (d : Datum) → fits (field.Lazy u) d ≡ true → is_folded (field.Lazy u) d ≡ true → is_window d ≡ false → true ≡ false
-    lazy (child t) is plain other = cc
-    lazy (window from to) is plain other = cc
-    lazy _ is plain other = cc
-folded_lazy (field.Node u) d is plain other = refl
-folded_lazy (field.Optional u) d is plain other = refl
-folded_lazy (field.List u holes filled) d is plain other = refl
-folded_lazy field.Bool d is plain other = refl
-folded_lazy field.Index d is plain other = refl
-folded_lazy field.Whole d is plain other = refl
-folded_lazy field.Text d is plain other = refl
-folded_lazy field.Name d is plain other = refl
-folded_lazy field.Label d is plain other = refl
-folded_lazy (field.Choice set) d is plain other = refl
+folded_lazy (field.Lazy u) (child t) is plain other = cc
+folded_lazy (field.Lazy u) _ is plain other = cc
+folded_lazy _ d is plain other = refl
+
+-- an item is not lazy, and a window is
+pub item_eager : (u : Union) (holes : Bool) → is_lazy_type (item_type u holes) ≡ false
+item_eager u true = refl
+item_eager u false = refl
+
+pub window_lazy : (f : FieldType) (from to : ℕ) → is_lazy_type f ≡ false → fits f (window from to) ≡ true → false ≡ true
+window_lazy (field.Lazy u) from to eager is = cc
+window_lazy _ from to eager is = cc

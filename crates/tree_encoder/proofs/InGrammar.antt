@@ -18,13 +18,14 @@ use Rattle.bast_schema.specs.Held.{Held}
 use Rattle.bast_schema.specs.Kinds.{same_kind}
 use Rattle.bast_schema.specs.Tree as schema
 use Rattle.bast_schema.specs.Tree.{Tree, branch, Datum, Data, none, more, depth, kind_of, typed}
-use Rattle.bast_schema.proofs.Both.{and_first, and_second}
+use Rattle.bast_schema.proofs.Both.{and_first, and_second, both}
 use Rattle.bast_schema.proofs.Distinct.{distinct_none, distinct_with_kind}
-use Rattle.container.specs.Atoms.{Atom, kind, count, flag, index, whole, text, window, chosen, atoms, atoms_of, atoms_of_fields, atoms_of_items}
-use Rattle.bast_schema.specs.Eager.{is_eager, is_eager_at, are_eager}
-use Rattle.container.specs.InFile.{InFile, IsEntry, has_atom, is_unnested, is_unnested_at, are_unnested, are_unnested_fields}
+use Rattle.container.specs.Atoms.{Atom, kind, text, chosen, atoms, atoms_of, atoms_of_fields, atoms_of_items}
+use Rattle.bast_schema.specs.Eager.{is_eager}
+use Rattle.container.specs.InFile.{InFile, IsEntry, has_atom, is_unnested}
 use Rattle.container.specs.Named.{named}
 use Rattle.container.specs.Tables.{Tables}
+use Rattle.container.proofs.ByAtoms.{eager_is_unnested}
 use Rattle.string_table.specs.Entries.{AreDistinct, added, is_same, place_in}
 use Rattle.string_table.proofs.Laws.{AreDistinct-added, added-new, added-there}
 use Rattle.string_table.proofs.Search.{position-from}
@@ -36,25 +37,15 @@ use Rattle.tree_encoder.proofs.Whole.{Stands, stands_after, stands_next}
 
 kinds_next : (s : Tables) (a : Atom) → IsDistinct same_kind s.kinds → IsDistinct same_kind (with_atom s a).kinds
 kinds_next s (kind k) distinct = distinct_with_kind s.kinds k distinct
-kinds_next s (text entry) distinct = distinct
-kinds_next s (count n) distinct = distinct
-kinds_next s (flag b) distinct = distinct
-kinds_next s (index n) distinct = distinct
-kinds_next s (whole n) distinct = distinct
-kinds_next s (window bytes) distinct = distinct
+kinds_next s _ distinct = distinct
 
 kinds_distinct : (s : Tables) (as' : List Atom) → IsDistinct same_kind s.kinds → IsDistinct same_kind (used_from s as').kinds
 kinds_distinct s [] distinct = distinct
 kinds_distinct s (a ∷ as') distinct = kinds_distinct (with_atom s a) as' (kinds_next s a distinct)
 
 texts_next : (s : Tables) (a : Atom) → AreDistinct s.texts → AreDistinct (with_atom s a).texts
-texts_next s (kind k) distinct = distinct
 texts_next s (text entry) distinct = AreDistinct-added s.texts entry distinct
-texts_next s (count n) distinct = distinct
-texts_next s (flag b) distinct = distinct
-texts_next s (index n) distinct = distinct
-texts_next s (whole n) distinct = distinct
-texts_next s (window bytes) distinct = distinct
+texts_next s _ distinct = distinct
 
 texts_distinct : (s : Tables) (as' : List Atom) → AreDistinct s.texts → AreDistinct (used_from s as').texts
 texts_distinct s [] distinct = distinct
@@ -82,13 +73,8 @@ entries_added ts entry all one = by (place_in ts entry) refl
     by (Some n) e = subst (λ (us : List (Option (List ℕ))). AllByRecursion IsEntry us) (sym (added-there ts entry n e).0) all
 
 entries_next : (s : Tables) (a : Atom) → IsText a → AllByRecursion IsEntry s.texts → AllByRecursion IsEntry (with_atom s a).texts
-entries_next s (kind k) one all = all
 entries_next s (text entry) one all = entries_added s.texts entry all one
-entries_next s (count n) one all = all
-entries_next s (flag b) one all = all
-entries_next s (index n) one all = all
-entries_next s (whole n) one all = all
-entries_next s (window bytes) one all = all
+entries_next s _ one all = all
 
 entries_all : (s : Tables) (as' : List Atom) → AllByRecursion IsText as' → AllByRecursion IsEntry s.texts → AllByRecursion IsEntry (used_from s as').texts
 entries_all s [] texts all = all
@@ -129,16 +115,7 @@ ascii_text bytes all = is_utf8-from_IsUtf8 bytes (IsUtf8-from_ascii bytes (ascii
 
 choice_is_text : (f : FieldType) (n : ℕ) → IsEntry (chosen f n)
 choice_is_text (field.Choice e) n = ascii_text (get_or (choice_texts e) n []) (ascii_at (choice_texts e) n (choices_are_ascii e))
-choice_is_text (field.Node u) n = tt
-choice_is_text (field.Optional u) n = tt
-choice_is_text (field.List u holes filled) n = tt
-choice_is_text (field.Lazy u) n = tt
-choice_is_text field.Bool n = tt
-choice_is_text field.Index n = tt
-choice_is_text field.Whole n = tt
-choice_is_text field.Text n = tt
-choice_is_text field.Name n = tt
-choice_is_text field.Label n = tt
+choice_is_text _ n = tt
 
 texts_join : (a b : List Atom) → AllByRecursion IsText a → AllByRecursion IsText b → AllByRecursion IsText (a ++ b)
 texts_join [] b first rest = rest
@@ -156,15 +133,10 @@ mutual
 
   value_texts : (h : Held) → AllByRecursion IsEntry h.texts → (d : Datum) (f : FieldType) → AllByRecursion IsText (atoms_of h f d)
   value_texts h all (schema.child t) f = tree_texts h all t
-  value_texts h all schema.absent f = (tt, tt)
   value_texts h all (schema.listed ds) f = (tt, items_texts h all ds)
-  value_texts h all (schema.flag b) f = (tt, tt)
-  value_texts h all (schema.index n) f = (tt, tt)
-  value_texts h all (schema.whole n) f = (tt, tt)
   value_texts h all (schema.name n) f = (entry_at h.texts n all, tt)
-  value_texts h all schema.no_name f = (tt, tt)
   value_texts h all (schema.choice n) f = (choice_is_text f n, tt)
-  value_texts h all (schema.window from to) f = (tt, tt)
+  value_texts h all _ f = (tt, tt)
 
   items_texts : (h : Held) → AllByRecursion IsEntry h.texts → (ds : Data) → AllByRecursion IsText (atoms_of_items h ds)
   items_texts h all none = tt
@@ -183,160 +155,13 @@ found_any p i n (x ∷ xs) is = by (p x) (found_any p (i + 1) n xs) is
 atom_had : (s : Tables) (a : Atom) → Stands s a → has_atom s a ≡ true
 atom_had s (kind k) there = found_any (λ j. same_kind j k) 0 there.0 s.kinds there.1
 atom_had s (text entry) there = found_any (is_same entry) 0 there.0 s.texts (sym (position-from (is_same entry) s.texts) ∙ there.1)
-atom_had s (count n) there = refl
-atom_had s (flag b) there = refl
-atom_had s (index n) there = refl
-atom_had s (whole n) there = refl
-atom_had s (window bytes) there = refl
-
-both : (a b : Bool) → a ≡ true → b ≡ true → (a && b) ≡ true
-both true b e f = f
-both false b e f = cc
+atom_had s _ there = refl
 
 all_had : (s : Tables) (as' : List Atom) → list_all (has_atom (used_from s as')) as' ≡ true
 all_had s [] = refl
 all_had s (a ∷ as') =
     let r = used_from (with_atom s a) as' in
     both (has_atom r a) (list_all (has_atom r) as') (atom_had r a (stands_after (with_atom s a) as' a (stands_next s a))) (all_had (with_atom s a) as')
-
--- ---- where no kind is lazy, none stands inside a lazy one
-
--- whether a value holds no lazy kind inside a lazy one, in a field that is not lazy
-abbrev unnested_inside : Datum → Bool
-unnested_inside (schema.child t) = is_unnested t
-unnested_inside (schema.listed ds) = are_unnested ds
-unnested_inside _ = true
-
-bare_or_lazy : (d : Datum) (f : FieldType) → is_eager_at d ≡ true → unnested_inside d ≡ true → is_unnested_at f d ≡ true
-bare_or_lazy d (field.Lazy u) eager inside = eager
-bare_or_lazy (schema.child t) (field.Node u) eager inside = inside
-bare_or_lazy (schema.child t) (field.Optional u) eager inside = inside
-bare_or_lazy (schema.child t) (field.List u holes filled) eager inside = inside
-bare_or_lazy (schema.child t) field.Bool eager inside = inside
-bare_or_lazy (schema.child t) field.Index eager inside = inside
-bare_or_lazy (schema.child t) field.Whole eager inside = inside
-bare_or_lazy (schema.child t) field.Text eager inside = inside
-bare_or_lazy (schema.child t) field.Name eager inside = inside
-bare_or_lazy (schema.child t) field.Label eager inside = inside
-bare_or_lazy (schema.child t) (field.Choice e) eager inside = inside
-bare_or_lazy schema.absent (field.Node u) eager inside = inside
-bare_or_lazy schema.absent (field.Optional u) eager inside = inside
-bare_or_lazy schema.absent (field.List u holes filled) eager inside = inside
-bare_or_lazy schema.absent field.Bool eager inside = inside
-bare_or_lazy schema.absent field.Index eager inside = inside
-bare_or_lazy schema.absent field.Whole eager inside = inside
-bare_or_lazy schema.absent field.Text eager inside = inside
-bare_or_lazy schema.absent field.Name eager inside = inside
-bare_or_lazy schema.absent field.Label eager inside = inside
-bare_or_lazy schema.absent (field.Choice e) eager inside = inside
-bare_or_lazy (schema.listed ds) (field.Node u) eager inside = inside
-bare_or_lazy (schema.listed ds) (field.Optional u) eager inside = inside
-bare_or_lazy (schema.listed ds) (field.List u holes filled) eager inside = inside
-bare_or_lazy (schema.listed ds) field.Bool eager inside = inside
-bare_or_lazy (schema.listed ds) field.Index eager inside = inside
-bare_or_lazy (schema.listed ds) field.Whole eager inside = inside
-bare_or_lazy (schema.listed ds) field.Text eager inside = inside
-bare_or_lazy (schema.listed ds) field.Name eager inside = inside
-bare_or_lazy (schema.listed ds) field.Label eager inside = inside
-bare_or_lazy (schema.listed ds) (field.Choice e) eager inside = inside
-bare_or_lazy (schema.flag b) (field.Node u) eager inside = inside
-bare_or_lazy (schema.flag b) (field.Optional u) eager inside = inside
-bare_or_lazy (schema.flag b) (field.List u holes filled) eager inside = inside
-bare_or_lazy (schema.flag b) field.Bool eager inside = inside
-bare_or_lazy (schema.flag b) field.Index eager inside = inside
-bare_or_lazy (schema.flag b) field.Whole eager inside = inside
-bare_or_lazy (schema.flag b) field.Text eager inside = inside
-bare_or_lazy (schema.flag b) field.Name eager inside = inside
-bare_or_lazy (schema.flag b) field.Label eager inside = inside
-bare_or_lazy (schema.flag b) (field.Choice e) eager inside = inside
-bare_or_lazy (schema.index n) (field.Node u) eager inside = inside
-bare_or_lazy (schema.index n) (field.Optional u) eager inside = inside
-bare_or_lazy (schema.index n) (field.List u holes filled) eager inside = inside
-bare_or_lazy (schema.index n) field.Bool eager inside = inside
-bare_or_lazy (schema.index n) field.Index eager inside = inside
-bare_or_lazy (schema.index n) field.Whole eager inside = inside
-bare_or_lazy (schema.index n) field.Text eager inside = inside
-bare_or_lazy (schema.index n) field.Name eager inside = inside
-bare_or_lazy (schema.index n) field.Label eager inside = inside
-bare_or_lazy (schema.index n) (field.Choice e) eager inside = inside
-bare_or_lazy (schema.whole n) (field.Node u) eager inside = inside
-bare_or_lazy (schema.whole n) (field.Optional u) eager inside = inside
-bare_or_lazy (schema.whole n) (field.List u holes filled) eager inside = inside
-bare_or_lazy (schema.whole n) field.Bool eager inside = inside
-bare_or_lazy (schema.whole n) field.Index eager inside = inside
-bare_or_lazy (schema.whole n) field.Whole eager inside = inside
-bare_or_lazy (schema.whole n) field.Text eager inside = inside
-bare_or_lazy (schema.whole n) field.Name eager inside = inside
-bare_or_lazy (schema.whole n) field.Label eager inside = inside
-bare_or_lazy (schema.whole n) (field.Choice e) eager inside = inside
-bare_or_lazy (schema.name n) (field.Node u) eager inside = inside
-bare_or_lazy (schema.name n) (field.Optional u) eager inside = inside
-bare_or_lazy (schema.name n) (field.List u holes filled) eager inside = inside
-bare_or_lazy (schema.name n) field.Bool eager inside = inside
-bare_or_lazy (schema.name n) field.Index eager inside = inside
-bare_or_lazy (schema.name n) field.Whole eager inside = inside
-bare_or_lazy (schema.name n) field.Text eager inside = inside
-bare_or_lazy (schema.name n) field.Name eager inside = inside
-bare_or_lazy (schema.name n) field.Label eager inside = inside
-bare_or_lazy (schema.name n) (field.Choice e) eager inside = inside
-bare_or_lazy schema.no_name (field.Node u) eager inside = inside
-bare_or_lazy schema.no_name (field.Optional u) eager inside = inside
-bare_or_lazy schema.no_name (field.List u holes filled) eager inside = inside
-bare_or_lazy schema.no_name field.Bool eager inside = inside
-bare_or_lazy schema.no_name field.Index eager inside = inside
-bare_or_lazy schema.no_name field.Whole eager inside = inside
-bare_or_lazy schema.no_name field.Text eager inside = inside
-bare_or_lazy schema.no_name field.Name eager inside = inside
-bare_or_lazy schema.no_name field.Label eager inside = inside
-bare_or_lazy schema.no_name (field.Choice e) eager inside = inside
-bare_or_lazy (schema.choice n) (field.Node u) eager inside = inside
-bare_or_lazy (schema.choice n) (field.Optional u) eager inside = inside
-bare_or_lazy (schema.choice n) (field.List u holes filled) eager inside = inside
-bare_or_lazy (schema.choice n) field.Bool eager inside = inside
-bare_or_lazy (schema.choice n) field.Index eager inside = inside
-bare_or_lazy (schema.choice n) field.Whole eager inside = inside
-bare_or_lazy (schema.choice n) field.Text eager inside = inside
-bare_or_lazy (schema.choice n) field.Name eager inside = inside
-bare_or_lazy (schema.choice n) field.Label eager inside = inside
-bare_or_lazy (schema.choice n) (field.Choice e) eager inside = inside
-bare_or_lazy (schema.window from to) (field.Node u) eager inside = inside
-bare_or_lazy (schema.window from to) (field.Optional u) eager inside = inside
-bare_or_lazy (schema.window from to) (field.List u holes filled) eager inside = inside
-bare_or_lazy (schema.window from to) field.Bool eager inside = inside
-bare_or_lazy (schema.window from to) field.Index eager inside = inside
-bare_or_lazy (schema.window from to) field.Whole eager inside = inside
-bare_or_lazy (schema.window from to) field.Text eager inside = inside
-bare_or_lazy (schema.window from to) field.Name eager inside = inside
-bare_or_lazy (schema.window from to) field.Label eager inside = inside
-bare_or_lazy (schema.window from to) (field.Choice e) eager inside = inside
-
-mutual
-  unnested_tree : (t : Tree) → is_eager t ≡ true → is_unnested t ≡ true
-  unnested_tree (branch k ds) eager = unnested_fields ds (fields k) (and_second _ (are_eager ds) eager)
-
-  unnested_fields : (ds : Data) (fs : List FieldType) → are_eager ds ≡ true → are_unnested_fields fs ds ≡ true
-  unnested_fields none [] eager = refl
-  unnested_fields none (f ∷ fs) eager = refl
-  unnested_fields (more d ds) [] eager = refl
-  unnested_fields (more d ds) (f ∷ fs) eager =
-      both (is_unnested_at f d) (are_unnested_fields fs ds) (unnested_value d f (and_first (is_eager_at d) (are_eager ds) eager)) (unnested_fields ds fs (and_second (is_eager_at d) (are_eager ds) eager))
-
-  unnested_value : (d : Datum) (f : FieldType) → is_eager_at d ≡ true → is_unnested_at f d ≡ true
-  unnested_value (schema.child t) f eager = bare_or_lazy (schema.child t) f eager (unnested_tree t eager)
-  unnested_value schema.absent f eager = bare_or_lazy schema.absent f eager (refl)
-  unnested_value (schema.listed ds) f eager = bare_or_lazy (schema.listed ds) f eager (unnested_items ds eager)
-  unnested_value (schema.flag b) f eager = bare_or_lazy (schema.flag b) f eager (refl)
-  unnested_value (schema.index n) f eager = bare_or_lazy (schema.index n) f eager (refl)
-  unnested_value (schema.whole n) f eager = bare_or_lazy (schema.whole n) f eager (refl)
-  unnested_value (schema.name n) f eager = bare_or_lazy (schema.name n) f eager (refl)
-  unnested_value schema.no_name f eager = bare_or_lazy schema.no_name f eager (refl)
-  unnested_value (schema.choice n) f eager = bare_or_lazy (schema.choice n) f eager (refl)
-  unnested_value (schema.window from to) f eager = bare_or_lazy (schema.window from to) f eager (refl)
-
-  unnested_items : (ds : Data) → are_eager ds ≡ true → are_unnested ds ≡ true
-  unnested_items none eager = refl
-  unnested_items (more d ds) eager =
-      both (is_unnested_at (field.Optional Body) d) (are_unnested ds) (unnested_value d (field.Optional Body) (and_first (is_eager_at d) (are_eager ds) eager)) (unnested_items ds (and_second (is_eager_at d) (are_eager ds) eager))
 
 -- ---- the file
 
@@ -353,7 +178,7 @@ file_in_grammar h t script ok shallow no_windows eager names entries small =
       spelling = refl;
       small = small;
       script = script;
-      typed_whole = both (typed t && is_whole t) (is_unnested t) (both (typed t) (is_whole t) ok no_windows) (unnested_tree t eager);
+      typed_whole = both (typed t && is_whole t) (is_unnested t) (both (typed t) (is_whole t) ok no_windows) (eager_is_unnested t eager);
       shallow = shallow;
     }
 

@@ -78,15 +78,7 @@ puts_more (Err TooLarge) old mid new a b first puts =
 -- each value has an atom at least
 has_atom : (h : Held) (t : FieldType) (d : Datum) → 1 ≤ length (atoms_of h t d)
 has_atom h t (schema.child (branch k ds)) = omega arith
-has_atom h t schema.absent = omega arith
-has_atom h t (schema.listed ds) = omega arith
-has_atom h t (schema.flag b) = omega arith
-has_atom h t (schema.index n) = omega arith
-has_atom h t (schema.whole n) = omega arith
-has_atom h t (schema.name n) = omega arith
-has_atom h t schema.no_name = omega arith
-has_atom h t (schema.choice n) = omega arith
-has_atom h t (schema.window from to) = omega arith
+has_atom h t _ = omega arith
 
 items_atoms : (h : Held) (ds : Data) → schema.count ds ≤ length (atoms_of_items h ds)
 items_atoms h none = omega arith

@@ -13,9 +13,9 @@ use Rattle.bast_schema.specs.Fields.{fields, has_lazy}
 use Rattle.bast_schema.specs.Held.{Held}
 use Rattle.bast_schema.specs.KindTable.{place_of}
 use Rattle.bast_schema.specs.Tree as schema
-use Rattle.bast_schema.specs.Tree.{Tree, branch, Datum, Data, none, more, kind_of, values_of, typed, fits, fit, item_type, items_fit}
+use Rattle.bast_schema.specs.Tree.{Tree, branch, Datum, Data, none, more, typed, fits, fit, item_type, items_fit}
 use Rattle.bast_schema.proofs.Both.{and_first, and_second}
-use Rattle.container.specs.Atoms.{Atom, kind, count, flag, index, whole, text, window, atoms, atoms_of, atoms_of_fields, atoms_of_items}
+use Rattle.container.specs.Atoms.{Atom, kind, text, atoms, atoms_of, atoms_of_fields, atoms_of_items}
 use Rattle.container.specs.Container.{container}
 use Rattle.var_numbers.specs.Varnum.{varnum}
 use Rattle.bast_schema.specs.Eager.{is_eager, is_eager_at, are_eager}
@@ -43,16 +43,7 @@ not_false false e = refl
 
 whole_small : (f : FieldType) (n : ℕ) → fits f (schema.whole n) ≡ true → n < 2 ^ 53
 whole_small field.Whole n is = ltb-true n (2 ^ 53) is
-whole_small (field.Node u) n is = cc
-whole_small (field.Optional u) n is = cc
-whole_small (field.List u holes filled) n is = cc
-whole_small (field.Lazy u) n is = cc
-whole_small field.Bool n is = cc
-whole_small field.Index n is = cc
-whole_small field.Text n is = cc
-whole_small field.Name n is = cc
-whole_small field.Label n is = cc
-whole_small (field.Choice set) n is = cc
+whole_small _ n is = cc
 
 mutual
   pub plain_tree : (h : Held) (t : Tree) → is_whole t ≡ true → is_eager t ≡ true → typed t ≡ true → AllPlain (atoms h t)
@@ -69,15 +60,11 @@ mutual
 
   plain_value : (h : Held) (d : Datum) (f g : FieldType) → is_whole_at d ≡ true → is_eager_at d ≡ true → fits f d ≡ true → AllPlain (atoms_of h g d)
   plain_value h (schema.child t) f g no_windows eager is = plain_tree h t no_windows eager (child_fits f t is)
-  plain_value h schema.absent f g no_windows eager is = (refl, tt)
   plain_value h (schema.listed ds) f g no_windows eager is = let items = listed_fits f ds is in (tt, plain_items h ds items.0 items.1 no_windows eager items.2)
-  plain_value h (schema.flag b) f g no_windows eager is = (tt, tt)
-  plain_value h (schema.index n) f g no_windows eager is = (tt, tt)
   plain_value h (schema.whole n) f g no_windows eager is = (whole_small f n is, tt)
-  plain_value h (schema.name n) f g no_windows eager is = (tt, tt)
-  plain_value h schema.no_name f g no_windows eager is = (tt, tt)
-  plain_value h (schema.choice n) f g no_windows eager is = (tt, tt)
   plain_value h (schema.window from to) f g no_windows eager is = cc
+  plain_value h schema.absent f g no_windows eager is = (refl, tt)
+  plain_value h _ f g no_windows eager is = (tt, tt)
 
   plain_items : (h : Held) (ds : Data) (u : Union) (holes : Bool) → is_whole_in ds ≡ true → are_eager ds ≡ true → items_fit u holes ds ≡ true → AllPlain (atoms_of_items h ds)
   plain_items h none u holes no_windows eager is = tt
@@ -97,29 +84,15 @@ Stands s _ = Unit {0}
 pub stands_next : (s : Tables) (a : Atom) → Stands (with_atom s a) a
 stands_next s (kind k) = (_, kind_placed s.kinds k)
 stands_next s (text entry) = (_, place_in-added s.texts entry)
-stands_next s (count n) = tt
-stands_next s (flag b) = tt
-stands_next s (index n) = tt
-stands_next s (whole n) = tt
-stands_next s (window bytes) = tt
+stands_next s _ = tt
 
 kind_kept : (s : Tables) (a : Atom) (k : Kind) (n : ℕ) → place_of s.kinds k ≡ Some n → place_of (with_atom s a).kinds k ≡ Some n
 kind_kept s (kind j) k n is = kind_stays s.kinds j k n is
-kind_kept s (text entry) k n is = is
-kind_kept s (count m) k n is = is
-kind_kept s (flag b) k n is = is
-kind_kept s (index m) k n is = is
-kind_kept s (whole m) k n is = is
-kind_kept s (window bytes) k n is = is
+kind_kept s _ k n is = is
 
 text_kept : (s : Tables) (a : Atom) (entry : Option (List ℕ)) (n : ℕ) → place_in s.texts entry ≡ Some n → place_in (with_atom s a).texts entry ≡ Some n
-text_kept s (kind j) entry n is = is
 text_kept s (text other) entry n is = text_stays s.texts other entry n is
-text_kept s (count m) entry n is = is
-text_kept s (flag b) entry n is = is
-text_kept s (index m) entry n is = is
-text_kept s (whole m) entry n is = is
-text_kept s (window bytes) entry n is = is
+text_kept s _ entry n is = is
 
 same_number : (o p : Option ℕ) (n i j : ℕ) → o ≡ Some n → p ≡ Some n → varnum (unwrap_or o i) ≡ varnum (unwrap_or p j)
 same_number o p n i j e f = ap (λ (x : Option ℕ). varnum (unwrap_or x i)) e ∙ sym (ap (λ (x : Option ℕ). varnum (unwrap_or x j)) f)
@@ -127,20 +100,12 @@ same_number o p n i j e f = ap (λ (x : Option ℕ). varnum (unwrap_or x i)) e �
 stands_kept : (s : Tables) (b a : Atom) → Stands s a → Stands (with_atom s b) a
 stands_kept s b (kind k) there = (there.0, kind_kept s b k there.0 there.1)
 stands_kept s b (text entry) there = (there.0, text_kept s b entry there.0 there.1)
-stands_kept s b (count m) there = tt
-stands_kept s b (flag c) there = tt
-stands_kept s b (index m) there = tt
-stands_kept s b (whole m) there = tt
-stands_kept s b (window bytes) there = tt
+stands_kept s b _ there = tt
 
 bytes_kept : (s : Tables) (b a : Atom) → Stands s a → spelled_atom s a ≡ spelled_atom (with_atom s b) a
 bytes_kept s b (kind k) there = same_number (place_of s.kinds k) (place_of (with_atom s b).kinds k) there.0 (length s.kinds) (length (with_atom s b).kinds) there.1 (kind_kept s b k there.0 there.1)
 bytes_kept s b (text entry) there = same_number (place_in s.texts entry) (place_in (with_atom s b).texts entry) there.0 (length s.texts) (length (with_atom s b).texts) there.1 (text_kept s b entry there.0 there.1)
-bytes_kept s b (count m) there = refl
-bytes_kept s b (flag c) there = refl
-bytes_kept s b (index m) there = refl
-bytes_kept s b (whole m) there = refl
-bytes_kept s b (window bytes) there = refl
+bytes_kept s b _ there = refl
 
 pub stands_after : (s : Tables) (as' : List Atom) (a : Atom) → Stands s a → Stands (used_from s as') a
 stands_after s [] a there = there
