@@ -49,7 +49,8 @@ use Rattle.tree_decoder.specs.Windows.{windows_at}
 use Rattle.tree_decoder.proofs.Machine.{from_step}
 use Rattle.tree_decoder.proofs.Nodes.{node_goes, list_goes, framed_item, item_atoms, item_spelled}
 use Rattle.tree_decoder.proofs.Single.{leaf_atom, first_byte}
-use Rattle.tree_decoder.proofs.Spells.{is_ok, range_split, range_drop, left_length}
+use Rattle.container.proofs.Ranges.{range_split}
+use Rattle.tree_decoder.proofs.Spells.{is_ok, range_drop, left_length}
 use Rattle.tree_decoder.proofs.Wholes.{whole_here}
 
 -- ---- parts of the bytes
@@ -88,18 +89,29 @@ pub any_place : {A : Type 0} (p : A → Bool) (i : ℕ) (xs : List A) → list_a
 any_place p i [] e = absurd cc
 any_place p i (x ∷ xs) e = any_first p i xs (p x) e (any_place p (i + 1) xs)
 
+pub kind_there : (s : Tables) (k : Kind) → has_atom s (kind k) ≡ true → slice_get s.kinds (kind_place s k) ≡ Some k
+kind_there s k e =
+    let found = any_place (λ j. same_kind j k) 0 s.kinds e in
+    let same : found.0 ≡ kind_place s k = sym (ap (λ (o : Option ℕ). unwrap_or o (length s.kinds)) found.1) in
+    ap (slice_get s.kinds) (sym same) ∙ kind_at_place s.kinds k found.0 found.1
+
+pub text_there : (s : Tables) (entry : Option (List ℕ)) → has_atom s (text entry) ≡ true → slice_get s.texts (text_place s entry) ≡ Some entry
+text_there s entry e =
+    let found = any_place (is_same entry) 0 s.texts e in
+    let place : place_in s.texts entry ≡ Some found.0 = position-from (is_same entry) s.texts ∙ found.1 in
+    let same : found.0 ≡ text_place s entry = sym (ap (λ (o : Option ℕ). unwrap_or o (length s.texts)) place) in
+    ap (slice_get s.texts) (sym same) ∙ slice_get-place_in s.texts entry found.0 place
+
 pub record HasKind (r : Range) (k : Kind) : Type 0 where
   pub there : slice_get r.tables.kinds (kind_place r.tables k) ≡ Some k
   pub small : kind_place r.tables k < 2 ^ 32
 
 has_kind : (r : Range) (k : Kind) → IsSound r → list_any (λ j. same_kind j k) r.tables.kinds ≡ true → HasKind r k
 has_kind r k sound e =
-    let found = any_place (λ j. same_kind j k) 0 r.tables.kinds e in
-    let at : slice_get r.tables.kinds found.0 ≡ Some k = kind_at_place r.tables.kinds k found.0 found.1 in
-    let same : found.0 ≡ kind_place r.tables k = sym (ap (λ (o : Option ℕ). unwrap_or o (length r.tables.kinds)) found.1) in
-    let lt : found.0 < length r.tables.kinds = slice_get_within r.tables.kinds found.0 k at in
+    let there = kind_there r.tables k e in
+    let lt : kind_place r.tables k < length r.tables.kinds = slice_get_within r.tables.kinds (kind_place r.tables k) k there in
     let few : length r.tables.kinds ≤ 82 = few_kinds r.tables.kinds sound.kinds in
-    record { there = ap (slice_get r.tables.kinds) (sym same) ∙ at; small = omega arith }
+    record { there = there; small = omega arith }
 
 pub record HasText (r : Range) (entry : Option (List ℕ)) : Type 0 where
   pub there : slice_get r.tables.texts (text_place r.tables entry) ≡ Some entry
@@ -107,13 +119,10 @@ pub record HasText (r : Range) (entry : Option (List ℕ)) : Type 0 where
 
 has_text : (r : Range) (entry : Option (List ℕ)) → IsSound r → list_any (is_same entry) r.tables.texts ≡ true → HasText r entry
 has_text r entry sound e =
-    let found = any_place (is_same entry) 0 r.tables.texts e in
-    let place : place_in r.tables.texts entry ≡ Some found.0 = position-from (is_same entry) r.tables.texts ∙ found.1 in
-    let at : slice_get r.tables.texts found.0 ≡ Some entry = slice_get-place_in r.tables.texts entry found.0 place in
-    let same : found.0 ≡ text_place r.tables entry = sym (ap (λ (o : Option ℕ). unwrap_or o (length r.tables.texts)) place) in
-    let lt : found.0 < length r.tables.texts = slice_get_within r.tables.texts found.0 entry at in
+    let there = text_there r.tables entry e in
+    let lt : text_place r.tables entry < length r.tables.texts = slice_get_within r.tables.texts (text_place r.tables entry) entry there in
     let few : length r.tables.texts < 2 ^ 32 = sound.few in
-    record { there = ap (slice_get r.tables.texts) (sym same) ∙ at; small = omega arith }
+    record { there = there; small = omega arith }
 
 pub first_atom : (s : Tables) (a : Atom) (xs : List Atom) → list_all (has_atom s) (a ∷ xs) ≡ true → has_atom s a ≡ true
 first_atom s a xs e = and_first (has_atom s a) (list_all (has_atom s) xs) e

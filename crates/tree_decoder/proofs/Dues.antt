@@ -22,7 +22,7 @@ use Rattle.tree_decoder.specs.Dues.{Due, due, dues, times, below}
 use Rattle.container.specs.Folded.{is_folded, folded, folded_at, folded_fields, folded_items}
 use Rattle.tree_decoder.specs.Left.{puts, then_left, dues_left}
 use Rattle.container.specs.Named.{named, named_at, all_named}
-use Rattle.tree_decoder.proofs.Nodes.{item_atoms}
+use Rattle.tree_decoder.proofs.Nodes.{item_atoms, plain_item}
 use Rattle.tree_decoder.proofs.Accepts.{enough_of, choice_text_of, not_lazy}
 
 pub puts_plain : (u : Union) (k : Kind) (d : ℕ) (w : Bool) → allowed u k ≡ true → (w && has_lazy k) ≡ false → cond (allowed u k && not (w && has_lazy k)) (Some (dues (fields k) (below k d) w)) None ≡ Some (dues (fields k) (below k d) w)
@@ -36,10 +36,6 @@ puts_null u k d w false is allow eager = puts_plain u k d w allow eager
 puts_kind : (u : Union) (optional : Bool) (k : Kind) (d : ℕ) (w : Bool) → allowed u k ≡ true → (w && has_lazy k) ≡ false → puts (item_type u optional) d w (kind k) ≡ Some (dues (fields k) (below k d) w)
 puts_kind u true k d w allow eager = puts_null u k d w (same_kind k Null) refl allow eager
 puts_kind u false k d w allow eager = puts_plain u k d w allow eager
-
-folded_item : (u : Union) (holes : Bool) (v : Datum) → is_folded (item_type u holes) v ≡ true
-folded_item u true v = refl
-folded_item u false v = refl
 
 text_puts : (b : Bool) (ds : List Due) (others : List Atom) → b ≡ true → then_left (λ es. dues_left es others) ds (cond b (Some []) None) ≡ dues_left ds others
 text_puts true ds others e = refl
@@ -89,5 +85,5 @@ mutual
       let back = dues (times (count vs) (item_type u holes)) d w ++ ds in
       ap (λ (a : List Atom). dues_left (due (item_type u holes) d w ∷ back) ((a ++ atoms_of_items h vs) ++ others)) (item_atoms h u holes v fit_ok)
       ∙ ap (dues_left (due (item_type u holes) d w ∷ back)) (append_assoc (atoms_of h (item_type u holes) v) (atoms_of_items h vs) others)
-      ∙ left_at h v (item_type u holes) d w fit_ok (and_first (named_at h v) (all_named h vs) names) (folded_item u holes v) (and_first (folded_at v) (folded_items vs) shut) (λ yes. and_first (is_eager_at v) (are_eager vs) (eager yes)) back (atoms_of_items h vs ++ others)
+      ∙ left_at h v (item_type u holes) d w fit_ok (and_first (named_at h v) (all_named h vs) names) (plain_item u holes v) (and_first (folded_at v) (folded_items vs) shut) (λ yes. and_first (is_eager_at v) (are_eager vs) (eager yes)) back (atoms_of_items h vs ++ others)
       ∙ left_items h vs u holes d w (and_second (fits (item_type u holes) v) (items_fit u holes vs) ok) (and_second (named_at h v) (all_named h vs) names) (and_second (folded_at v) (folded_items vs) shut) (λ yes. and_second (is_eager_at v) (are_eager vs) (eager yes)) ds others

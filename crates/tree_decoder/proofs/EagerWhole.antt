@@ -5,12 +5,11 @@ use Rattle.std.proofs.lemmas.List.Folds.{list_all-append}
 use Rattle.bast_schema.specs.declared.kind.Kind.{Kind}
 use Rattle.bast_schema.specs.declared.kind.Union.{Union}
 use Rattle.bast_schema.specs.declared.kind.FieldType.{FieldType}
-use Rattle.bast_schema.specs.declared.kind.FieldType.TheVariants as field
 use Rattle.bast_schema.specs.Counts.{is_whole, is_whole_at, is_whole_in}
 use Rattle.bast_schema.specs.Fields.{fields, has_lazy, is_lazy_type}
-use Rattle.bast_schema.specs.Tree.{Tree, branch, Datum, child, absent, listed, flag, index, whole, name, no_name, choice, window, Data, none, more, typed, fits, fit, item_type, items_fit}
+use Rattle.bast_schema.specs.Tree.{Tree, branch, Datum, child, listed, window, Data, none, more, typed, fits, fit, item_type, items_fit}
 use Rattle.bast_schema.proofs.Both.{and_first, and_second, both}
-use Rattle.container.proofs.Values.{child_fits, listed_fits}
+use Rattle.container.proofs.Values.{child_fits, item_eager, listed_fits, window_lazy}
 use Rattle.tree_decoder.specs.LazyKinds.{is_eager_kind, first_lazy, kinds_of, kinds_at, kinds_in}
 
 -- where no kind is lazy, each is eager
@@ -23,24 +22,16 @@ all_eager n [] is = refl
 all_eager n (k ∷ ks) is = first_before (is_eager_kind k) n ks is (all_eager (n + 1) ks)
 
 -- an eager kind has no lazy field
-not_true : (b : Bool) → not b ≡ true → b ≡ false
+pub not_true : (b : Bool) → not b ≡ true → b ≡ false
 not_true true is = cc
 not_true false is = refl
 
 pub eager_kind : (k : Kind) → is_eager_kind k ≡ true → has_lazy k ≡ false
 eager_kind k is = not_true (has_lazy k) is
 
-neither : (a b : Bool) → (a || b) ≡ false → (a ≡ false) × (b ≡ false)
+pub neither : (a b : Bool) → (a || b) ≡ false → (a ≡ false) × (b ≡ false)
 neither true b is = cc
 neither false b is = (refl, is)
-
-item_eager : (u : Union) (holes : Bool) → is_lazy_type (item_type u holes) ≡ false
-item_eager u true = refl
-item_eager u false = refl
-
-window_lazy : (f : FieldType) (from to : ℕ) → is_lazy_type f ≡ false → fits f (window from to) ≡ true → false ≡ true
-window_lazy (field.Lazy u) from to eager is = cc
-window_lazy _ from to eager is = cc
 
 split_first : (d : Datum) (ds : Data) → list_all is_eager_kind (kinds_at d ++ kinds_in ds) ≡ true → (list_all is_eager_kind (kinds_at d) && list_all is_eager_kind (kinds_in ds)) ≡ true
 split_first d ds all = sym (list_all-append is_eager_kind (kinds_at d) (kinds_in ds)) ∙ all
@@ -54,13 +45,7 @@ mutual
   whole_value (child t) f eager fit all = whole_tree t (child_fits f t fit) all
   whole_value (listed ds) f eager fit all = let items = listed_fits f ds fit in whole_items ds items.0 items.1 items.2 all
   whole_value (window from to) f eager fit all = window_lazy f from to eager fit
-  whole_value absent f eager fit all = refl
-  whole_value (flag b) f eager fit all = refl
-  whole_value (index n) f eager fit all = refl
-  whole_value (whole n) f eager fit all = refl
-  whole_value (name n) f eager fit all = refl
-  whole_value no_name f eager fit all = refl
-  whole_value (choice n) f eager fit all = refl
+  whole_value _ f eager fit all = refl
 
   whole_fields : (ds : Data) (fs : List FieldType) → list_any is_lazy_type fs ≡ false → fit fs ds ≡ true → list_all is_eager_kind (kinds_in ds) ≡ true → is_whole_in ds ≡ true
   whole_fields none fs eager is all = refl

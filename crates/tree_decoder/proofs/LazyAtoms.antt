@@ -1,5 +1,5 @@
 -- The kinds of a tree are told by its atoms, and a tree without lazy kinds is the only one that its file spells.
-use Rattle.std.proofs.Common.{◌≡◌, ℕ, ◌+◌, Bool, true, false, not, ◌&&◌, List, [], ◌∷◌, ◌++◌, None, ◌<◌, refl, sym, ap, subst, ◌∙◌}
+use Rattle.std.proofs.Common.{◌≡◌, ℕ, ◌+◌, Bool, true, not, ◌&&◌, List, [], ◌∷◌, ◌++◌, None, ◌<◌, refl, sym, ap, subst, ◌∙◌}
 use Rattle.std.specs.List.{All, list_all, position_from}
 use Rattle.std.specs.Prelude.{slice_range}
 use Rattle.std.proofs.lemmas.List.Folds.{list_all-append}
@@ -11,7 +11,7 @@ use Rattle.bast_schema.specs.declared.kind.FieldType.TheVariants as field
 use Rattle.bast_schema.specs.Counts.{is_whole}
 use Rattle.bast_schema.specs.Fields.{fields, has_lazy}
 use Rattle.bast_schema.specs.Held.{Held}
-use Rattle.bast_schema.specs.Tree.{Tree, branch, Datum, child, absent, listed, flag, index, whole, name, no_name, choice, window, Data, none, more, typed, fits, fit, item_type, items_fit}
+use Rattle.bast_schema.specs.Tree.{Tree, branch, Datum, child, listed, Data, none, more, typed, fits, fit, item_type, items_fit}
 use Rattle.bast_schema.proofs.Both.{and_first, and_second, both}
 use Rattle.container.specs.declared.layout.Layout.{Layout}
 use Rattle.container.specs.Atoms as atom
@@ -29,7 +29,7 @@ use Rattle.tree_decoder.proofs.OneTree.{one_eager_tree}
 use Rattle.container.proofs.Values.{child_fits, listed_fits}
 use Rattle.tree_decoder.specs.LazyKinds.{is_eager_kind, first_lazy, kinds_of, kinds_at, kinds_in}
 use Rattle.tree_decoder.specs.Reading.{IsFileOfScript}
-use Rattle.tree_decoder.proofs.EagerWhole.{all_eager, eager_kind}
+use Rattle.tree_decoder.proofs.EagerWhole.{all_eager}
 use Rattle.tree_decoder.proofs.OneFile.{file_of}
 
 -- an atom that is of no lazy kind
@@ -40,105 +40,45 @@ eager_atom _ = true
 pub joined : {X : Type 0} (p : X → Bool) (xs ys : List X) → list_all p xs ≡ true → list_all p ys ≡ true → list_all p (xs ++ ys) ≡ true
 joined p xs ys a b = list_all-append p xs ys ∙ both (list_all p xs) (list_all p ys) a b
 
-front : {X : Type 0} (p : X → Bool) (xs ys : List X) → list_all p (xs ++ ys) ≡ true → list_all p xs ≡ true
-front p xs ys all = and_first (list_all p xs) (list_all p ys) (sym (list_all-append p xs ys) ∙ all)
+-- the kinds of a well-typed tree are those of its atoms, but for absent nodes, whose kind is not lazy
+together : (xs zs : List Atom) (ys ws : List Kind) → list_all eager_atom xs ≡ list_all is_eager_kind ys → list_all eager_atom zs ≡ list_all is_eager_kind ws → list_all eager_atom (xs ++ zs) ≡ list_all is_eager_kind (ys ++ ws)
+together xs zs ys ws first rest = list_all-append eager_atom xs zs ∙ rw (first, rest) refl ∙ sym (list_all-append is_eager_kind ys ws)
 
-behind : {X : Type 0} (p : X → Bool) (xs ys : List X) → list_all p (xs ++ ys) ≡ true → list_all p ys ≡ true
-behind p xs ys all = and_second (list_all p xs) (list_all p ys) (sym (list_all-append p xs ys) ∙ all)
-
--- from the kinds of nodes to atoms
 mutual
-  forth_tree : (h : Held) (t : Tree) → list_all is_eager_kind (kinds_of t) ≡ true → list_all eager_atom (atoms h t) ≡ true
-  forth_tree h (branch k ds) all =
-      both (is_eager_kind k) (list_all eager_atom (atoms_of_fields h (fields k) ds)) (and_first (is_eager_kind k) (list_all is_eager_kind (kinds_in ds)) all)
-      (forth_fields h ds (fields k) (and_second (is_eager_kind k) (list_all is_eager_kind (kinds_in ds)) all))
+  kinds_tree : (h : Held) (t : Tree) → typed t ≡ true → list_all eager_atom (atoms h t) ≡ list_all is_eager_kind (kinds_of t)
+  kinds_tree h (branch k ds) ok = ap (λ b. is_eager_kind k && b) (kinds_fields h ds (fields k) ok)
 
-  forth_fields : (h : Held) (ds : Data) (ts : List FieldType) → list_all is_eager_kind (kinds_in ds) ≡ true → list_all eager_atom (atoms_of_fields h ts ds) ≡ true
-  forth_fields h none [] all = refl
-  forth_fields h none (t ∷ ts) all = refl
-  forth_fields h (more d ds) [] all = refl
-  forth_fields h (more d ds) (t ∷ ts) all =
-      joined eager_atom (atoms_of h t d) (atoms_of_fields h ts ds)
-      (forth_value h d t (front is_eager_kind (kinds_at d) (kinds_in ds) all)) (forth_fields h ds ts (behind is_eager_kind (kinds_at d) (kinds_in ds) all))
+  kinds_fields : (h : Held) (ds : Data) (ts : List FieldType) → fit ts ds ≡ true → list_all eager_atom (atoms_of_fields h ts ds) ≡ list_all is_eager_kind (kinds_in ds)
+  kinds_fields h none [] ok = refl
+  kinds_fields h none (t ∷ ts) ok = refl
+  kinds_fields h (more d ds) [] ok = absurd cc
+  kinds_fields h (more d ds) (t ∷ ts) ok =
+      together (atoms_of h t d) (atoms_of_fields h ts ds) (kinds_at d) (kinds_in ds) (kinds_value h d t t (and_first (fits t d) (fit ts ds) ok)) (kinds_fields h ds ts (and_second (fits t d) (fit ts ds) ok))
 
-  forth_value : (h : Held) (d : Datum) (t : FieldType) → list_all is_eager_kind (kinds_at d) ≡ true → list_all eager_atom (atoms_of h t d) ≡ true
-  forth_value h (child c) t all = forth_tree h c all
-  forth_value h (listed ds) t all = forth_items h ds all
-  forth_value h absent t all = refl
-  forth_value h (flag b) t all = refl
-  forth_value h (index n) t all = refl
-  forth_value h (whole n) t all = refl
-  forth_value h (name n) t all = refl
-  forth_value h no_name t all = refl
-  forth_value h (choice n) t all = refl
-  forth_value h (window from to) t all = refl
+  kinds_value : (h : Held) (d : Datum) (t u : FieldType) → fits t d ≡ true → list_all eager_atom (atoms_of h u d) ≡ list_all is_eager_kind (kinds_at d)
+  kinds_value h (child c) t u ok = kinds_tree h c (child_fits t c ok)
+  kinds_value h (listed ds) t u ok = let items = listed_fits t ds ok in kinds_items h ds items.0 items.1 items.2
+  kinds_value h _ t u ok = refl
 
-  forth_items : (h : Held) (ds : Data) → list_all is_eager_kind (kinds_in ds) ≡ true → list_all eager_atom (atoms_of_items h ds) ≡ true
-  forth_items h none all = refl
-  forth_items h (more d ds) all =
-      joined eager_atom (atoms_of h (field.Optional Body) d) (atoms_of_items h ds)
-      (forth_value h d (field.Optional Body) (front is_eager_kind (kinds_at d) (kinds_in ds) all)) (forth_items h ds (behind is_eager_kind (kinds_at d) (kinds_in ds) all))
+  kinds_items : (h : Held) (ds : Data) (u : Union) (holes : Bool) → items_fit u holes ds ≡ true → list_all eager_atom (atoms_of_items h ds) ≡ list_all is_eager_kind (kinds_in ds)
+  kinds_items h none u holes ok = refl
+  kinds_items h (more d ds) u holes ok =
+      together (atoms_of h (field.Optional Body) d) (atoms_of_items h ds) (kinds_at d) (kinds_in ds)
+      (kinds_value h d (item_type u holes) (field.Optional Body) (and_first (fits (item_type u holes) d) (items_fit u holes ds) ok)) (kinds_items h ds u holes (and_second (fits (item_type u holes) d) (items_fit u holes ds) ok))
 
--- and back, where the tree is well typed
+-- a tree is eager where its kinds are
 mutual
-  back_tree : (h : Held) (t : Tree) → typed t ≡ true → list_all eager_atom (atoms h t) ≡ true → list_all is_eager_kind (kinds_of t) ≡ true
-  back_tree h (branch k ds) ok all =
-      both (is_eager_kind k) (list_all is_eager_kind (kinds_in ds)) (and_first (is_eager_kind k) (list_all eager_atom (atoms_of_fields h (fields k) ds)) all)
-      (back_fields h ds (fields k) ok (and_second (is_eager_kind k) (list_all eager_atom (atoms_of_fields h (fields k) ds)) all))
+  eager_tree : (t : Tree) → is_eager t ≡ list_all is_eager_kind (kinds_of t)
+  eager_tree (branch k ds) = ap (λ b. not (has_lazy k) && b) (eager_data ds)
 
-  back_fields : (h : Held) (ds : Data) (ts : List FieldType) → fit ts ds ≡ true → list_all eager_atom (atoms_of_fields h ts ds) ≡ true → list_all is_eager_kind (kinds_in ds) ≡ true
-  back_fields h none ts ok all = refl
-  back_fields h (more d ds) [] ok all = absurd cc
-  back_fields h (more d ds) (t ∷ ts) ok all =
-      joined is_eager_kind (kinds_at d) (kinds_in ds)
-      (back_value h d t t (and_first (fits t d) (fit ts ds) ok) (front eager_atom (atoms_of h t d) (atoms_of_fields h ts ds) all))
-      (back_fields h ds ts (and_second (fits t d) (fit ts ds) ok) (behind eager_atom (atoms_of h t d) (atoms_of_fields h ts ds) all))
+  eager_value : (d : Datum) → is_eager_at d ≡ list_all is_eager_kind (kinds_at d)
+  eager_value (child t) = eager_tree t
+  eager_value (listed ds) = eager_data ds
+  eager_value _ = refl
 
-  back_value : (h : Held) (d : Datum) (t u : FieldType) → fits t d ≡ true → list_all eager_atom (atoms_of h u d) ≡ true → list_all is_eager_kind (kinds_at d) ≡ true
-  back_value h (child c) t u ok all = back_tree h c (child_fits t c ok) all
-  back_value h (listed ds) t u ok all = let items = listed_fits t ds ok in back_items h ds items.0 items.1 items.2 all
-  back_value h absent t u ok all = refl
-  back_value h (flag b) t u ok all = refl
-  back_value h (index n) t u ok all = refl
-  back_value h (whole n) t u ok all = refl
-  back_value h (name n) t u ok all = refl
-  back_value h no_name t u ok all = refl
-  back_value h (choice n) t u ok all = refl
-  back_value h (window from to) t u ok all = refl
-
-  back_items : (h : Held) (ds : Data) (u : Union) (holes : Bool) → items_fit u holes ds ≡ true → list_all eager_atom (atoms_of_items h ds) ≡ true → list_all is_eager_kind (kinds_in ds) ≡ true
-  back_items h none u holes ok all = refl
-  back_items h (more d ds) u holes ok all =
-      joined is_eager_kind (kinds_at d) (kinds_in ds)
-      (back_value h d (item_type u holes) (field.Optional Body) (and_first (fits (item_type u holes) d) (items_fit u holes ds) ok) (front eager_atom (atoms_of h (field.Optional Body) d) (atoms_of_items h ds) all))
-      (back_items h ds u holes (and_second (fits (item_type u holes) d) (items_fit u holes ds) ok) (behind eager_atom (atoms_of h (field.Optional Body) d) (atoms_of_items h ds) all))
-
-not_lazy : (b : Bool) → b ≡ false → not b ≡ true
-not_lazy true is = absurd cc
-not_lazy false is = refl
-
--- a tree of eager kinds is eager
-mutual
-  eager_tree : (t : Tree) → list_all is_eager_kind (kinds_of t) ≡ true → is_eager t ≡ true
-  eager_tree (branch k ds) all =
-      both (not (has_lazy k)) (are_eager ds) (not_lazy (has_lazy k) (eager_kind k (and_first (is_eager_kind k) (list_all is_eager_kind (kinds_in ds)) all)))
-      (eager_data ds (and_second (is_eager_kind k) (list_all is_eager_kind (kinds_in ds)) all))
-
-  eager_value : (d : Datum) → list_all is_eager_kind (kinds_at d) ≡ true → is_eager_at d ≡ true
-  eager_value (child t) all = eager_tree t all
-  eager_value (listed ds) all = eager_data ds all
-  eager_value absent all = refl
-  eager_value (flag b) all = refl
-  eager_value (index n) all = refl
-  eager_value (whole n) all = refl
-  eager_value (name n) all = refl
-  eager_value no_name all = refl
-  eager_value (choice n) all = refl
-  eager_value (window from to) all = refl
-
-  eager_data : (ds : Data) → list_all is_eager_kind (kinds_in ds) ≡ true → are_eager ds ≡ true
-  eager_data none all = refl
-  eager_data (more d ds) all = both (is_eager_at d) (are_eager ds) (eager_value d (front is_eager_kind (kinds_at d) (kinds_in ds) all)) (eager_data ds (behind is_eager_kind (kinds_at d) (kinds_in ds) all))
+  eager_data : (ds : Data) → are_eager ds ≡ list_all is_eager_kind (kinds_in ds)
+  eager_data none = refl
+  eager_data (more d ds) = rw (eager_value d, eager_data ds) (sym (list_all-append is_eager_kind (kinds_at d) (kinds_in ds)))
 
 pub none_other : (n : ℕ) (ks : List Kind) → list_all is_eager_kind ks ≡ true → position_from (λ k. not (is_eager_kind k)) n ks ≡ None
 none_other n [] all = refl
@@ -162,5 +102,5 @@ eager_read bytes h t l u small file first read =
     in let ok = and_first (typed t && is_whole t) (is_unnested t) file.typed_whole
     in let has : list_all (has_atom (tables l)) (atoms h t) ≡ true = subst (λ (s : Tables). list_all (has_atom s) (atoms h t) ≡ true) same.0 file.has_all
     in let spelling : spelled (tables l) h t ≡ spelled (tables l) (held r) u = ap (λ (s : Tables). spelled s h t) (sym same.0) ∙ same.1 ∙ read.script.spelled
-    in let one = one_eager_tree (tables l) h (held r) t u has read.script.has_all (and_first (typed t) (is_whole t) ok) read.script.typed (and_second (typed t) (is_whole t) ok) (eager_tree t all) spelling
-    in none_other 0 (kinds_of u) (back_tree (held r) u read.script.typed (subst (λ (as1 : List Atom). list_all eager_atom as1 ≡ true) one (forth_tree h t all)))
+    in let one = one_eager_tree (tables l) h (held r) t u has read.script.has_all (and_first (typed t) (is_whole t) ok) read.script.typed (and_second (typed t) (is_whole t) ok) (eager_tree t ∙ all) spelling
+    in none_other 0 (kinds_of u) (sym (kinds_tree (held r) u read.script.typed) ∙ ap (list_all eager_atom) (sym one) ∙ kinds_tree h t (and_first (typed t) (is_whole t) ok) ∙ all)

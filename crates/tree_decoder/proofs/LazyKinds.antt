@@ -3,7 +3,7 @@ use Rattle.std.proofs.Common.{◌≡◌, ℕ, ◌+◌, ◌<◌, Bool, true, fals
 use Rattle.std.specs.List.{position_from}
 use Rattle.bast_schema.specs.declared.kind.Kind.{Kind}
 use Rattle.bast_schema.specs.declared.node.Value.{Value}
-use Rattle.bast_schema.specs.Tree.{Tree, branch, Datum, child, absent, listed, flag, index, whole, name, no_name, choice, window, Data, none, more, nodes, nodes_at, nodes_in}
+use Rattle.bast_schema.specs.Tree.{Tree, branch, Datum, child, listed, Data, none, more, nodes, nodes_at, nodes_in}
 use Rattle.bast_schema.specs.View.{datum, data_of}
 use Rattle.bast_schema.proofs.Lists.{data_of_drop}
 use Rattle.tree_decoder.specs.LazyKinds.{is_eager_kind, kinds_of, kinds_at, kinds_in, walked}
@@ -15,15 +15,8 @@ mutual
 
   pub kinds_nodes_at : (d : Datum) → length (kinds_at d) ≡ nodes_at d
   kinds_nodes_at (child t) = kinds_nodes t
-  kinds_nodes_at absent = refl
   kinds_nodes_at (listed ds) = kinds_nodes_in ds
-  kinds_nodes_at (flag b) = refl
-  kinds_nodes_at (index n) = refl
-  kinds_nodes_at (whole n) = refl
-  kinds_nodes_at (name n) = refl
-  kinds_nodes_at no_name = refl
-  kinds_nodes_at (choice n) = refl
-  kinds_nodes_at (window from to) = refl
+  kinds_nodes_at _ = refl
 
   pub kinds_nodes_in : (ds : Data) → length (kinds_in ds) ≡ nodes_in ds
   kinds_nodes_in none = refl

@@ -40,7 +40,7 @@ flag_moves_of : (r : Range) (at : ℕ) (a b : Bool) (x : Datum × ℕ) → at < 
 flag_moves_of r at true b x h e = same_next r at (flag false) (at + 1) x (omega arith) (omega arith) refl (ok_is _ _ e)
 flag_moves_of r at false b x h e = same_next r at (flag true) (at + 1) x (omega arith) (omega arith) refl (chosen_ok b (flag true, at + 1) (fault at BadBool) x e).1
 
-inside_end : (r : Range) (at : ℕ) (b : Bool) (x : Datum × ℕ) → cond b (flag_of at (slice_index r.tape at)) (Err (fault r.end Ended)) ≡ Ok x → (b ≡ true) × (flag_of at (slice_index r.tape at) ≡ Ok x)
+pub inside_end : (r : Range) (at : ℕ) (b : Bool) (x : Datum × ℕ) → cond b (flag_of at (slice_index r.tape at)) (Err (fault r.end Ended)) ≡ Ok x → (b ≡ true) × (flag_of at (slice_index r.tape at) ≡ Ok x)
 inside_end r at true x e = (refl, e)
 inside_end r at false x e = absurd cc
 
@@ -74,15 +74,7 @@ by_number r t at x sound order e =
 pub leaf_moves : (r : Range) (t : FieldType) (at : ℕ) (x : Datum × ℕ) → IsSound r → at ≤ r.end → leaf_at r t at ≡ Ok x → Moves r at x.1 (windows_at x.0)
 leaf_moves r field.Bool at x sound order e = flag_moves r at x e
 leaf_moves r field.Whole at x sound order e = whole_moves r at x e
-leaf_moves r field.Index at x sound order e = by_number r field.Index at x sound order e
-leaf_moves r field.Text at x sound order e = by_number r field.Text at x sound order e
-leaf_moves r field.Name at x sound order e = by_number r field.Name at x sound order e
-leaf_moves r field.Label at x sound order e = by_number r field.Label at x sound order e
-leaf_moves r (field.Choice set) at x sound order e = by_number r (field.Choice set) at x sound order e
-leaf_moves r (field.Lazy u) at x sound order e = by_number r (field.Lazy u) at x sound order e
-leaf_moves r (field.Node u) at x sound order e = by_number r (field.Node u) at x sound order e
-leaf_moves r (field.Optional u) at x sound order e = by_number r (field.Optional u) at x sound order e
-leaf_moves r (field.List u holes filled) at x sound order e = by_number r (field.List u holes filled) at x sound order e
+leaf_moves r t at x sound order e = by_number r t at x sound order e
 
 pub judged_keeps : (u : Union) (depth : ℕ) (inside : Bool) (at next : ℕ) (k : Kind) (x : Option Kind × ℕ) → judged u depth inside at next k ≡ Ok x → (Some k, next) ≡ x
 judged_keeps u depth inside at next k x e =
@@ -126,11 +118,4 @@ atom_moves r (field.Optional u) d w at y sound order e = kind_atom r u true d w 
 atom_moves r (field.List u holes filled) d w at y sound order e =
     let b = bind_ok (count_at r filled at) (λ n. is_ok (taken (dues (times n.0 (item_type u holes)) d w) [] n.1)) y e in
     subst (λ (z : Taken). Moves r at z.next z.windows) (ok_is _ _ b.2) (count_moves r filled at b.0 sound order b.1)
-atom_moves r field.Bool d w at y sound order e = leaf_atom r field.Bool at y sound order e
-atom_moves r field.Index d w at y sound order e = leaf_atom r field.Index at y sound order e
-atom_moves r field.Whole d w at y sound order e = leaf_atom r field.Whole at y sound order e
-atom_moves r field.Text d w at y sound order e = leaf_atom r field.Text at y sound order e
-atom_moves r field.Name d w at y sound order e = leaf_atom r field.Name at y sound order e
-atom_moves r field.Label d w at y sound order e = leaf_atom r field.Label at y sound order e
-atom_moves r (field.Choice set) d w at y sound order e = leaf_atom r (field.Choice set) at y sound order e
-atom_moves r (field.Lazy u) d w at y sound order e = leaf_atom r (field.Lazy u) at y sound order e
+atom_moves r t d w at y sound order e = leaf_atom r t at y sound order e

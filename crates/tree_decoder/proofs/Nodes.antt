@@ -19,9 +19,9 @@ use Rattle.bast_schema.specs.Fields.{fields, has_lazy}
 use Rattle.bast_schema.specs.Held.{Held}
 use Rattle.bast_schema.specs.Kinds.{counted, same_kind}
 use Rattle.bast_schema.specs.Made.{node_of}
-use Rattle.bast_schema.specs.Tree.{Tree, branch, Datum, child, absent, listed, flag, index, whole, name, no_name, choice, window, Data, none, more, fits, fit, items_fit, item_type, is_none, count, depth, depth_in, typed, kind_of}
+use Rattle.bast_schema.specs.Tree.{Tree, branch, Datum, child, absent, listed, choice, Data, none, more, fits, fit, items_fit, item_type, is_none, count, depth, depth_in, typed, kind_of}
 use Rattle.bast_schema.specs.Unions.{allowed}
-use Rattle.bast_schema.proofs.Both.{and_first, and_second}
+use Rattle.bast_schema.proofs.Both.{and_first, and_second, both}
 use Rattle.bast_schema.proofs.Distinct.{place_of_at}
 use Rattle.bast_schema.proofs.EachKind.{same_kind_self, same_kind_true}
 use Rattle.bast_schema.proofs.Lists.{count_fit}
@@ -45,28 +45,25 @@ use Rattle.tree_decoder.proofs.Spells.{bind_ok, guard_ok, is_ok, ok_is, number_s
 
 -- ---- kinds
 
-pub and_true : (a b : Bool) → a ≡ true → b ≡ true → (a && b) ≡ true
-and_true true b p q = q
-and_true false b p q = cc
-
-pub record Judged (u : Union) (d next : ℕ) (j k : Kind) (m : ℕ) : Type 0 where
+pub record Judged (u : Union) (d next : ℕ) (w : Bool) (j k : Kind) (m : ℕ) : Type 0 where
   pub same : j ≡ k
   pub place : next ≡ m
   pub allowed : allowed u k ≡ true
+  pub plain : (w && has_lazy k) ≡ false
   pub shallow : (counted k && ltb 512 d) ≡ false
 
-not_or_first : (a b : Bool) → (not a || b) ≡ false → a ≡ true
-not_or_first true b e = refl
-not_or_first false b e = cc
+neither : (a b : Bool) → (not a || b) ≡ false → (a ≡ true) × (b ≡ false)
+neither true b e = (refl, e)
+neither false b e = absurd cc
 
-judged_some : (u : Union) (d : ℕ) (w : Bool) (at next : ℕ) (j k : Kind) (m : ℕ) → judged u d w at next j ≡ Ok (Some k, m) → Judged u d next j k m
+judged_some : (u : Union) (d : ℕ) (w : Bool) (at next : ℕ) (j k : Kind) (m : ℕ) → judged u d w at next j ≡ Ok (Some k, m) → Judged u d next w j k m
 judged_some u d w at next j k m e =
     let g = guard_ok (not (allowed u j) || (w && has_lazy j)) (fault at BadKind) (cond (counted j && ltb 512 d) (Err (fault at TooDeep)) (Ok (Some j, next))) (Some k, m) e in
     let h = guard_ok (counted j && ltb 512 d) (fault at TooDeep) (Ok (Some j, next)) (Some k, m) g.1 in
     let is : (Some j, next) ≡ (Some k, m) = ok_is _ _ h.1 in
     let kind : Some j ≡ Some k = ap (λ (p : Option Kind × ℕ). p.0) is in
     let same : j ≡ k = cc in
-    record { same = same; place = ap (λ (p : Option Kind × ℕ). p.1) is; allowed = rw (← same) (not_or_first (allowed u j) (w && has_lazy j) g.0); shallow = rw (← same) h.0 }
+    record { same = same; place = ap (λ (p : Option Kind × ℕ). p.1) is; allowed = rw (← same) (neither (allowed u j) (w && has_lazy j) g.0).0; plain = rw (← same) (neither (allowed u j) (w && has_lazy j) g.0).1; shallow = rw (← same) h.0 }
 
 judged_none : (u : Union) (d : ℕ) (w : Bool) (at next : ℕ) (j : Kind) (m : ℕ) → judged u d w at next j ≡ Ok (None, m) → ⊥
 judged_none u d w at next j m e =
@@ -76,7 +73,7 @@ judged_none u d w at next j m e =
     let kind : Some j ≡ None = ap (λ (p : Option Kind × ℕ). p.0) is in
     cc
 
-chose_kind : (b : Bool) (u : Union) (d : ℕ) (w : Bool) (at next : ℕ) (j k : Kind) (m : ℕ) → cond b (is_ok (None, next)) (judged u d w at next j) ≡ Ok (Some k, m) → Judged u d next j k m
+chose_kind : (b : Bool) (u : Union) (d : ℕ) (w : Bool) (at next : ℕ) (j k : Kind) (m : ℕ) → cond b (is_ok (None, next)) (judged u d w at next j) ≡ Ok (Some k, m) → Judged u d next w j k m
 chose_kind true u d w at next j k m e = let is : (None, next) ≡ (Some k, m) = ok_is _ _ e in let kind : None ≡ Some k = ap (λ (p : Option Kind × ℕ). p.0) is in absurd cc
 chose_kind false u d w at next j k m e = judged_some u d w at next j k m e
 
@@ -84,7 +81,7 @@ chose_absent : (b : Bool) (u : Union) (d : ℕ) (w : Bool) (at next : ℕ) (j : 
 chose_absent true u d w at next j m e = (refl, ap (λ (p : Option Kind × ℕ). p.1) (ok_is _ _ e))
 chose_absent false u d w at next j m e = absurd (judged_none u d w at next j m e)
 
-numbered_kind : (o : Option Kind) (u : Union) (optional : Bool) (d : ℕ) (w : Bool) (at next : ℕ) (k : Kind) (m : ℕ) → kind_of_number u optional d w at next o ≡ Ok (Some k, m) → (j : Kind) × (o ≡ Some j) × Judged u d next j k m
+numbered_kind : (o : Option Kind) (u : Union) (optional : Bool) (d : ℕ) (w : Bool) (at next : ℕ) (k : Kind) (m : ℕ) → kind_of_number u optional d w at next o ≡ Ok (Some k, m) → (j : Kind) × (o ≡ Some j) × Judged u d next w j k m
 numbered_kind None u optional d w at next k m e = absurd cc
 numbered_kind (Some j) u optional d w at next k m e = (j, refl, chose_kind (optional && same_kind j Null) u d w at next j k m e)
 
@@ -103,19 +100,20 @@ kind_here r n k sound is = ap (λ (o : Option ℕ). unwrap_or o (length r.tables
 spelled_as : (r : Range) (at n next m p : ℕ) → m ≡ n → next ≡ p → left r at ≡ varnum n ++ left r next → left r at ≡ varnum m ++ left r p
 spelled_as r at n next m p same on e = e ∙ ap (λ (k : ℕ). varnum k ++ left r next) (sym same) ∙ ap (λ (k : ℕ). varnum m ++ left r k) on
 
-pub record KindStands (r : Range) (u : Union) (d at : ℕ) (k : Kind) (m : ℕ) : Type 0 where
+pub record KindStands (r : Range) (u : Union) (d : ℕ) (w : Bool) (at : ℕ) (k : Kind) (m : ℕ) : Type 0 where
   pub spelled : left r at ≡ varnum (kind_place r.tables k) ++ left r m
   pub allowed : allowed u k ≡ true
+  pub plain : (w && has_lazy k) ≡ false
   pub shallow : (counted k && ltb 512 d) ≡ false
   pub has : has_atom r.tables (atom.kind k) ≡ true
 
-pub kind_stands : (r : Range) (u : Union) (optional : Bool) (d : ℕ) (w : Bool) (at : ℕ) (k : Kind) (m : ℕ) → IsSound r → at ≤ r.end → kind_at r u optional d w at ≡ Ok (Some k, m) → KindStands r u d at k m
+pub kind_stands : (r : Range) (u : Union) (optional : Bool) (d : ℕ) (w : Bool) (at : ℕ) (k : Kind) (m : ℕ) → IsSound r → at ≤ r.end → kind_at r u optional d w at ≡ Ok (Some k, m) → KindStands r u d w at k m
 unfolding kind_at
 kind_stands r u optional d w at k m sound order e =
     let b = bind_ok (number_from r at) (λ n. kind_of_number u optional d w at n.1 (slice_get r.tables.kinds n.0)) (Some k, m) e in
     let j = numbered_kind (slice_get r.tables.kinds b.0.0) u optional d w at b.0.1 k m b.2 in
     let place : kind_place r.tables k ≡ b.0.0 = ap (kind_place r.tables) (sym j.2.same) ∙ kind_here r b.0.0 j.0 sound j.1 in
-    record { spelled = spelled_as r at b.0.0 b.0.1 (kind_place r.tables k) m place j.2.place (number_spells r at b.0 sound order b.1).front; allowed = j.2.allowed; shallow = j.2.shallow; has = ap (λ (i : Kind). has_atom r.tables (atom.kind i)) (sym j.2.same) ∙ kind_has r b.0.0 j.0 j.1 }
+    record { spelled = spelled_as r at b.0.0 b.0.1 (kind_place r.tables k) m place j.2.place (number_spells r at b.0 sound order b.1).front; allowed = j.2.allowed; plain = j.2.plain; shallow = j.2.shallow; has = ap (λ (i : Kind). has_atom r.tables (atom.kind i)) (sym j.2.same) ∙ kind_has r b.0.0 j.0 j.1 }
 
 pub absent_stands : (r : Range) (u : Union) (optional : Bool) (d : ℕ) (w : Bool) (at m : ℕ) → IsSound r → at ≤ r.end → kind_at r u optional d w at ≡ Ok (None, m) → (left r at ≡ varnum (kind_place r.tables Null) ++ left r m) × (optional ≡ true) × (has_atom r.tables (atom.kind Null) ≡ true)
 unfolding kind_at
@@ -136,7 +134,7 @@ pub framed_item : (u : Union) (holes : Bool) (bytes : List ℕ) → framed (item
 framed_item u true bytes = refl
 framed_item u false bytes = refl
 
-fits_child : (u : Union) (optional : Bool) (t : Tree) → allowed u (kind_of t) ≡ true → typed t ≡ true → fits (item_type u optional) (child t) ≡ true
+pub fits_child : (u : Union) (optional : Bool) (t : Tree) → allowed u (kind_of t) ≡ true → typed t ≡ true → fits (item_type u optional) (child t) ≡ true
 fits_child u true t a e = rw (a, e) refl
 fits_child u false t a e = rw (a, e) refl
 
@@ -171,8 +169,8 @@ node_found r u optional d w at k m ds next sound order small e run =
       fits = fits_child u optional (branch k ds) st.allowed run.fits;
       depth = depth_of_node (counted k) (ltb 512 d) d (depth_in ds) st.shallow (λ b. ltb-false _ _ b) small run.depth;
       stands = run.stands;
-      has_all = and_true (has_atom r.tables (atom.kind k)) (list_all (has_atom r.tables) (atoms_of_fields (held r) (fields k) ds)) st.has run.has_all;
-      folded = and_true (is_folded (item_type u optional) (child (branch k ds))) (folded_fields (fields k) ds) (plain_item u optional (child (branch k ds))) run.folded;
+      has_all = both (has_atom r.tables (atom.kind k)) (list_all (has_atom r.tables) (atoms_of_fields (held r) (fields k) ds)) st.has run.has_all;
+      folded = both (is_folded (item_type u optional) (child (branch k ds))) (folded_fields (fields k) ds) (plain_item u optional (child (branch k ds))) run.folded;
       forward = omega arith;
       within = run.within;
     }
@@ -187,8 +185,8 @@ absent_found r u optional d w at m sound order small e =
       fits = fits_absent u optional st.1;
       depth = omega arith;
       stands = refl;
-      has_all = and_true (has_atom r.tables (atom.kind Null)) true st.2 refl;
-      folded = and_true (is_folded (item_type u optional) absent) true (plain_item u optional absent) refl;
+      has_all = both (has_atom r.tables (atom.kind Null)) true st.2 refl;
+      folded = both (is_folded (item_type u optional) absent) true (plain_item u optional absent) refl;
       forward = mv.forward;
       within = mv.within;
     }
@@ -257,30 +255,14 @@ items_spend r u holes filled d w at n m old mid new sound order e s f = λ ds.
 
 -- items are spelled as nodes that may be absent
 pub item_spelled : (s : Tables) (h : Held) (u : Union) (holes : Bool) (d : Datum) → fits (item_type u holes) d ≡ true → spelled_at s h (item_type u holes) d ≡ spelled_at s h (field.Optional Body) d
-item_spelled s h u holes (child t) e = refl
-item_spelled s h u holes absent e = refl
-item_spelled s h u holes (listed ds) e = refl
-item_spelled s h u holes (flag b) e = refl
-item_spelled s h u holes (index n) e = refl
-item_spelled s h u holes (whole n) e = refl
-item_spelled s h u holes (name n) e = refl
-item_spelled s h u holes no_name e = refl
 item_spelled s h u true (choice n) e = cc
 item_spelled s h u false (choice n) e = cc
-item_spelled s h u holes (window from to) e = refl
+item_spelled s h u holes _ e = refl
 
 pub item_atoms : (h : Held) (u : Union) (holes : Bool) (d : Datum) → fits (item_type u holes) d ≡ true → atoms_of h (field.Optional Body) d ≡ atoms_of h (item_type u holes) d
-item_atoms h u holes (child t) e = refl
-item_atoms h u holes absent e = refl
-item_atoms h u holes (listed ds) e = refl
-item_atoms h u holes (flag b) e = refl
-item_atoms h u holes (index n) e = refl
-item_atoms h u holes (whole n) e = refl
-item_atoms h u holes (name n) e = refl
-item_atoms h u holes no_name e = refl
 item_atoms h u true (choice n) e = cc
 item_atoms h u false (choice n) e = cc
-item_atoms h u holes (window from to) e = refl
+item_atoms h u holes _ e = refl
 
 pub times_atoms : (h : Held) (n : ℕ) (u : Union) (holes : Bool) (vs : Data) → fit (times n (item_type u holes)) vs ≡ true → atoms_of_fields h (times n (item_type u holes)) vs ≡ atoms_of_items h vs
 times_atoms h zero u holes none e = refl
@@ -297,7 +279,7 @@ times_folded zero t (more v vs) f e = cc
 times_folded (suc n) t none f e = cc
 times_folded (suc n) t (more v vs) f e =
     let rest = and_second (is_folded t v) (folded_at v && folded_fields (times n t) vs) e in
-    and_true (folded_at v) (folded_items vs) (and_first (folded_at v) (folded_fields (times n t) vs) rest) (times_folded n t vs (and_second (fits t v) (fit (times n t) vs) f) (and_second (folded_at v) (folded_fields (times n t) vs) rest))
+    both (folded_at v) (folded_items vs) (and_first (folded_at v) (folded_fields (times n t) vs) rest) (times_folded n t vs (and_second (fits t v) (fit (times n t) vs) f) (and_second (folded_at v) (folded_fields (times n t) vs) rest))
 
 both_items : (s : Tables) (h : Held) (u : Union) (holes : Bool) (d : Datum) (xs ys : List ℕ) → fits (item_type u holes) d ≡ true → xs ≡ ys → framed (item_type u holes) (spelled_at s h (item_type u holes) d) ++ xs ≡ spelled_at s h (field.Optional Body) d ++ ys
 both_items s h u holes d xs ys e is = ap (λ (b : List ℕ). b ++ xs) (framed_item u holes (spelled_at s h (item_type u holes) d) ∙ item_spelled s h u holes d e) ∙ ap (λ (b : List ℕ). spelled_at s h (field.Optional Body) d ++ b) is
@@ -336,7 +318,7 @@ count_stands r filled at n m sound order e =
     let sp = (number_spells r at b.0 sound order b.1).front in
     subst (λ (x : ℕ × ℕ). CountStands r filled at x.0 x.1) is (record { spelled = sp; enough = g.0 })
 
-list_fits : (filled : Bool) (n : ℕ) (t : FieldType) (ds : Data) → (filled && eqb n 0) ≡ false → fit (times n t) ds ≡ true → (not filled || not (is_none ds)) ≡ true
+pub list_fits : (filled : Bool) (n : ℕ) (t : FieldType) (ds : Data) → (filled && eqb n 0) ≡ false → fit (times n t) ds ≡ true → (not filled || not (is_none ds)) ≡ true
 list_fits false n t ds e f = refl
 list_fits true n t (more d ds) e f = refl
 list_fits true zero t none e f = cc

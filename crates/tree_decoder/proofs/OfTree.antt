@@ -14,10 +14,10 @@ use Rattle.bast_schema.specs.Choices.{choice_texts, choice_of_text}
 use Rattle.bast_schema.specs.Fields.{fields, has_lazy}
 use Rattle.bast_schema.specs.Held.{Held, text_of, bytes_of}
 use Rattle.bast_schema.specs.Kinds.{same_kind}
-use Rattle.bast_schema.specs.Tree.{Tree, branch, Datum, child, absent, listed, no_name, choice, Data, none, more, fits, fit, items_fit, item_type, is_none}
+use Rattle.bast_schema.specs.Tree.{branch, Datum, child, absent, listed, no_name, choice, Data, none, more, fits, fit, items_fit, item_type, is_none}
 use Rattle.bast_schema.specs.Tree as tree
 use Rattle.bast_schema.specs.Unions.{allowed}
-use Rattle.bast_schema.proofs.Both.{and_first, and_second}
+use Rattle.bast_schema.proofs.Both.{and_first, and_second, both}
 use Rattle.bast_schema.proofs.ChoiceTexts.{text_of_choice}
 use Rattle.bast_schema.proofs.EachKind.{same_kind_true}
 use Rattle.bast_schema.proofs.Lists.{count_fit}
@@ -27,19 +27,14 @@ use Rattle.tree_decoder.specs.Dues.{Due, due, dues, times, below}
 use Rattle.container.specs.Folded.{is_folded, folded_at, folded_fields}
 use Rattle.tree_decoder.specs.Left.{puts, then_left, dues_left, IsOfDue}
 use Rattle.container.specs.Named.{named_at, all_named}
-use Rattle.tree_decoder.proofs.Nodes.{items_fit_times, length_times, times_atoms, times_folded, plain_item, and_true}
+use Rattle.tree_decoder.proofs.Nodes.{items_fit_times, length_times, times_atoms, times_folded, plain_item, fits_child, list_fits}
 
 -- ---- texts and bytes for the atoms
 
 abbrev Covered : Held → Atom → Type 0
 Covered h (text (Some bytes)) = (n : ℕ) × (text_of h n ≡ Some bytes)
-Covered h (text None) = Unit {0}
 Covered h (window bytes) = (from : ℕ) × (to : ℕ) × (bytes_of h from to ≡ bytes)
-Covered h (kind k) = Unit {0}
-Covered h (count n) = Unit {0}
-Covered h (flag b) = Unit {0}
-Covered h (index n) = Unit {0}
-Covered h (whole n) = Unit {0}
+Covered h _ = Unit {0}
 
 abbrev Covers : Held → List Atom → Type 0
 Covers h [] = Unit {0}
@@ -59,23 +54,13 @@ moved_bytes bytes tape from to =
 
 covered_text : (bytes : List ℕ) (h : Held) (a : Atom) → Covered h a → Covered (with_text bytes h) a
 covered_text bytes h (text (Some other)) c = (suc c.0, c.1)
-covered_text bytes h (text None) c = tt
 covered_text bytes h (window other) c = c
-covered_text bytes h (kind k) c = tt
-covered_text bytes h (count n) c = tt
-covered_text bytes h (flag b) c = tt
-covered_text bytes h (index n) c = tt
-covered_text bytes h (whole n) c = tt
+covered_text bytes h _ c = tt
 
 covered_bytes : (bytes : List ℕ) (h : Held) (a : Atom) → Covered h a → Covered (with_bytes bytes h) a
 covered_bytes bytes h (text (Some other)) c = c
-covered_bytes bytes h (text None) c = tt
 covered_bytes bytes h (window other) c = (length bytes + c.0, length bytes + c.1, moved_bytes bytes h.tape c.0 c.1 ∙ c.2)
-covered_bytes bytes h (kind k) c = tt
-covered_bytes bytes h (count n) c = tt
-covered_bytes bytes h (flag b) c = tt
-covered_bytes bytes h (index n) c = tt
-covered_bytes bytes h (whole n) c = tt
+covered_bytes bytes h _ c = tt
 
 covers_text : (bytes : List ℕ) (h : Held) (xs : List Atom) → Covers h xs → Covers (with_text bytes h) xs
 covers_text bytes h [] c = tt
@@ -92,13 +77,8 @@ first_bytes bytes tape = let size : length bytes - 0 ≡ length bytes = omega ar
 held_over : (xs : List Atom) → (h : Held) × Covers h xs
 held_over [] = (record { texts = []; tape = [] }, tt)
 held_over (text (Some bytes) ∷ xs) = let o = held_over xs in (with_text bytes o.0, ((0, refl), covers_text bytes o.0 xs o.1))
-held_over (text None ∷ xs) = let o = held_over xs in (o.0, (tt, o.1))
 held_over (window bytes ∷ xs) = let o = held_over xs in (with_bytes bytes o.0, ((0, length bytes, first_bytes bytes o.0.tape), covers_bytes bytes o.0 xs o.1))
-held_over (kind k ∷ xs) = let o = held_over xs in (o.0, (tt, o.1))
-held_over (count n ∷ xs) = let o = held_over xs in (o.0, (tt, o.1))
-held_over (flag b ∷ xs) = let o = held_over xs in (o.0, (tt, o.1))
-held_over (index n ∷ xs) = let o = held_over xs in (o.0, (tt, o.1))
-held_over (whole n ∷ xs) = let o = held_over xs in (o.0, (tt, o.1))
+held_over (_ ∷ xs) = let o = held_over xs in (o.0, (tt, o.1))
 
 -- ---- a value for a due, and values for several
 
@@ -140,10 +120,10 @@ several_at n h (t ∷ ts) one d w ds xs few c e =
       values = more o.value r.values;
       others = r.others;
       atoms = o.atoms ∙ ap (λ (z : List Atom). atoms_of h t o.value ++ z) r.atoms ∙ sym (append_assoc (atoms_of h t o.value) (atoms_of_fields h ts r.values) r.others);
-      fit = and_true (fits t o.value) (fit ts r.values) o.of_due.fits r.fit;
-      named = and_true (named_at h o.value) (all_named h r.values) o.of_due.named r.named;
-      folded = and_true (is_folded t o.value) (folded_at o.value && folded_fields ts r.values) o.of_due.is_folded (and_true (folded_at o.value) (folded_fields ts r.values) o.of_due.folded r.folded);
-      eager = λ yes. and_true (is_eager_at o.value) (are_eager r.values) (o.of_due.eager yes) (r.eager yes);
+      fit = both (fits t o.value) (fit ts r.values) o.of_due.fits r.fit;
+      named = both (named_at h o.value) (all_named h r.values) o.of_due.named r.named;
+      folded = both (is_folded t o.value) (folded_at o.value && folded_fields ts r.values) o.of_due.is_folded (both (folded_at o.value) (folded_fields ts r.values) o.of_due.folded r.folded);
+      eager = λ yes. both (is_eager_at o.value) (are_eager r.values) (o.of_due.eager yes) (r.eager yes);
       rest = r.rest;
       covers = r.covers;
       shorter = omega arith;
@@ -159,10 +139,6 @@ if_none : (b : Bool) (es ds : List Due) (others : List Atom) → then_left (λ f
 if_none true es ds others e = absurd cc
 if_none false es ds others e = (refl, e)
 
-fits_node : (u : Union) (optional : Bool) (k : Kind) (vs : Data) → allowed u k ≡ true → fit (fields k) vs ≡ true → fits (item_type u optional) (child (branch k vs)) ≡ true
-fits_node u true k vs a f = and_true (allowed u k) (fit (fields k) vs) a f
-fits_node u false k vs a f = and_true (allowed u k) (fit (fields k) vs) a f
-
 no_lazy : (w b : Bool) → not (w && b) ≡ true → w ≡ true → not b ≡ true
 no_lazy true b e in_window = e
 no_lazy false b e in_window = absurd cc
@@ -176,11 +152,11 @@ one_node n h u optional d w ds k xs several few c ok e =
       others = r.others;
       atoms = ap (λ (z : List Atom). kind k ∷ z) r.atoms;
       of_due = record {
-        fits = fits_node u optional k r.values (and_first (allowed u k) (not (w && has_lazy k)) ok) r.fit;
+        fits = fits_child u optional (branch k r.values) (and_first (allowed u k) (not (w && has_lazy k)) ok) r.fit;
         named = r.named;
         is_folded = plain_item u optional (child (branch k r.values));
         folded = r.folded;
-        eager = λ yes. and_true (not (has_lazy k)) (are_eager r.values) (no_lazy w (has_lazy k) (and_second (allowed u k) (not (w && has_lazy k)) ok) yes) (r.eager yes);
+        eager = λ yes. both (not (has_lazy k)) (are_eager r.values) (no_lazy w (has_lazy k) (and_second (allowed u k) (not (w && has_lazy k)) ok) yes) (r.eager yes);
       };
       rest = r.rest;
       covers = r.covers;
@@ -202,12 +178,6 @@ one_optional n h u d w ds k xs false is several few c e =
     let g = if_some (allowed u k && not (w && has_lazy k)) (dues (fields k) (below k d) w) ds xs e in
     one_node n h u true d w ds k xs several few c g.0 g.1
 
-filled_of : (filled : Bool) (n : ℕ) (t : FieldType) (vs : Data) → (filled && eqb n 0) ≡ false → fit (times n t) vs ≡ true → (not filled || not (is_none vs)) ≡ true
-filled_of false n t vs e f = refl
-filled_of true n t (more v vs) e f = refl
-filled_of true zero t none e f = cc
-filled_of true (suc n) t none e f = cc
-
 one_list : (n : ℕ) (h : Held) (u : Union) (holes filled : Bool) (d : ℕ) (w : Bool) (ds : List Due) (m : ℕ) (xs : List Atom) → SeveralAt n h → length xs ≤ n → Covers h xs → (filled && eqb m 0) ≡ false → dues_left (dues (times m (item_type u holes)) d w ++ ds) xs ≡ Some [] → One h (field.List u holes filled) w ds (count m ∷ xs)
 one_list n h u holes filled d w ds m xs several few c enough e =
     let r = several (times m (item_type u holes)) d w ds xs few c e in
@@ -218,7 +188,7 @@ one_list n h u holes filled d w ds m xs several few c enough e =
       others = r.others;
       atoms = ap (λ (z : List Atom). count m ∷ z) (r.atoms ∙ ap (λ (z : List Atom). z ++ r.others) (times_atoms h m u holes r.values r.fit)) ∙ ap (λ (k : ℕ). count k ∷ (atoms_of_items h r.values ++ r.others)) (sym many);
       of_due = record {
-        fits = and_true (not filled || not (is_none r.values)) (items_fit u holes r.values) (filled_of filled m (item_type u holes) r.values enough r.fit) (items_fit_times m u holes r.values r.fit);
+        fits = both (not filled || not (is_none r.values)) (items_fit u holes r.values) (list_fits filled m (item_type u holes) r.values enough r.fit) (items_fit_times m u holes r.values r.fit);
         named = r.named;
         is_folded = refl;
         folded = times_folded m (item_type u holes) r.values r.fit r.folded;

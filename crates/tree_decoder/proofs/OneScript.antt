@@ -1,11 +1,10 @@
 -- A script is the only one that is read at its place.
-use Rattle.std.proofs.Common.{ℕ, zero, suc, ◌≡◌, true, List, [], ◌∷◌, ◌++◌, Option, Some, None, get_or, refl, sym, ap, ◌∙◌, append_assoc, slice_get}
+use Rattle.std.proofs.Common.{ℕ, ◌≡◌, true, List, [], ◌∷◌, ◌++◌, refl, sym, ap, ◌∙◌, append_assoc}
 use Rattle.bast_schema.specs.declared.kind.Kind.{Kind}
 use Rattle.bast_schema.specs.Tree.{Tree, branch, Datum, child, absent, listed, flag, index, whole, name, no_name, choice, window, Data, none, more}
 use Rattle.bast_schema.proofs.Both.{and_first, and_second}
-use Rattle.string_table.specs.Entries.{place_in, AreDistinct}
-use Rattle.string_table.proofs.Laws.{place_in-own}
-use Rattle.tree_decoder.specs.Found.{is_text, stands, stands_at, all_stand}
+use Rattle.string_table.specs.Entries.{AreDistinct}
+use Rattle.tree_decoder.specs.Found.{stands, stands_at, all_stand}
 use Rattle.tree_decoder.specs.Outcome.{Outcome}
 use Rattle.tree_decoder.specs.Range.{Range, held}
 use Rattle.tree_decoder.specs.SameTree.{IsSameTree, IsSame, AreSame}
@@ -13,21 +12,10 @@ use Rattle.tree_decoder.specs.Script.{IsScript}
 use Rattle.tree_decoder.specs.Windows.{windows, windows_at, windows_in}
 use Rattle.tree_decoder.proofs.OneTree.{one_folded_tree}
 use Rattle.tree_decoder.proofs.SameTree.{same_tree}
-use Rattle.tree_decoder.proofs.Whole.{named_where_stands}
+use Rattle.tree_decoder.proofs.OneTable.{one_name}
+use Rattle.tree_decoder.proofs.Whole.{named_at_where_stands, named_where_stands}
 
 -- ---- trees over one table, where no text stands twice, whose windows have the same places
-
-text_stands : (texts : List (Option (List ℕ))) (n : ℕ) → is_text (slice_get texts n) ≡ true → slice_get texts n ≡ Some (get_or texts n None)
-text_stands [] n is = cc
-text_stands (entry ∷ texts) zero is = refl
-text_stands (entry ∷ texts) (suc n) is = text_stands texts n is
-
-one_name : (texts : List (Option (List ℕ))) (n m : ℕ) → AreDistinct texts → is_text (slice_get texts n) ≡ true → is_text (slice_get texts m) ≡ true → get_or texts n None ≡ get_or texts m None → n ≡ m
-one_name texts n m apart p q same =
-    let a = place_in-own texts (get_or texts n None) n apart (text_stands texts n p) in
-    let b = place_in-own texts (get_or texts m None) m apart (text_stands texts m q) in
-    let both : Some n ≡ Some m = sym a ∙ ap (place_in texts) same ∙ b in
-    cc
 
 -- places of windows
 first_pair : (p q : ℕ × ℕ) (w z : List (ℕ × ℕ)) → p ∷ w ≡ q ∷ z → (p ≡ q) × (w ≡ z)
@@ -45,7 +33,7 @@ mutual
   value_one : (r : Range) (v o : Datum) (w z : List (ℕ × ℕ)) → AreDistinct r.tables.texts → stands_at r v ≡ true → stands_at r o ≡ true → IsSame (held r) (held r) v o → windows_at v ++ w ≡ windows_at o ++ z → (v ≡ o) × (w ≡ z)
   value_one r (child t) (child u) w z apart p q same e = let inner = tree_one r t u w z apart p q same e in (ap child inner.0, inner.1)
   value_one r (listed ds) (listed es) w z apart p q same e = let inner = data_one r ds es w z apart p q same e in (ap listed inner.0, inner.1)
-  value_one r (name n) (name m) w z apart p q same e = (ap name (one_name r.tables.texts n m apart p q same), e)
+  value_one r (name n) (name m) w z apart p q same e = (ap name (one_name r.tables.texts n m apart (named_at_where_stands r (name n) p) same), e)
   value_one r (window a b) (window c d) w z apart p q same e = one_window a b c d w z e
   value_one r absent absent w z apart p q same e = (refl, e)
   value_one r no_name no_name w z apart p q same e = (refl, e)

@@ -14,7 +14,7 @@ text_there [] n is = cc
 text_there (entry ∷ texts) zero is = refl
 text_there (entry ∷ texts) (suc n) is = text_there texts n is
 
-one_name : (texts : List (Option (List ℕ))) (n m : ℕ) → AreDistinct texts → is_some (get_or texts n None) ≡ true → get_or texts n None ≡ get_or texts m None → n ≡ m
+pub one_name : (texts : List (Option (List ℕ))) (n m : ℕ) → AreDistinct texts → is_some (get_or texts n None) ≡ true → get_or texts n None ≡ get_or texts m None → n ≡ m
 one_name texts n m apart is same =
     let a = place_in-own texts (get_or texts n None) n apart (text_there texts n is) in
     let b = place_in-own texts (get_or texts m None) m apart (text_there texts m (ap is_some (sym same) ∙ is)) in

@@ -1,7 +1,6 @@
 -- Two trees that are spelled alike have the same atoms.
 use Rattle.std.proofs.Common.{ℕ, suc, ◌^◌, ◌<◌, ◌≡◌, Bool, true, false, not, ◌&&◌, ◌||◌, List, [], ◌∷◌, ◌++◌, length, take, drop, Option, Some, None, refl, sym, ap, subst, ◌∙◌, arith, append_assoc, append-nil, slice_get, inl, inr, ◌⊎◌}
 use Rattle.std.specs.List.{list_all, list_any}
-use Rattle.std.specs.Option.{unwrap_or}
 use Rattle.std.specs.Int.{w64, from_be_bytes, to_be_bytes}
 use Rattle.std.proofs.lemmas.Bool.{ltb-true, and_from}
 use Rattle.std.proofs.lemmas.List.{take_at, drop_at}
@@ -19,14 +18,9 @@ use Rattle.bast_schema.specs.declared.kind.Union.TheVariants.{Body}
 use Rattle.bast_schema.specs.Counts.{is_whole, is_whole_at, is_whole_in}
 use Rattle.bast_schema.specs.Fields.{fields, has_lazy, is_lazy_type}
 use Rattle.bast_schema.specs.Held.{Held, text_of, bytes_of}
-use Rattle.bast_schema.specs.Kinds.{same_kind}
 use Rattle.bast_schema.specs.Tree.{Tree, branch, Datum, child, absent, listed, flag, index, whole, name, no_name, choice, window, Data, none, more, fits, fit, items_fit, item_type, is_none, count, typed}
 use Rattle.bast_schema.specs.Unions.{allowed}
 use Rattle.bast_schema.proofs.Both.{and_first, and_second}
-use Rattle.bast_schema.proofs.Distinct.{kind_at_place}
-use Rattle.string_table.specs.Entries.{place_in, is_same}
-use Rattle.string_table.proofs.Laws.{slice_get-place_in}
-use Rattle.string_table.proofs.Search.{position-from}
 use Rattle.container.specs.Atoms as atom
 use Rattle.container.specs.Atoms.{Atom, kind, text, chosen, atoms, atoms_of, atoms_of_fields, atoms_of_items}
 use Rattle.bast_schema.specs.Eager.{are_eager, is_eager, is_eager_at}
@@ -34,7 +28,9 @@ use Rattle.container.specs.InFile.{has_atom}
 use Rattle.container.specs.Spelled.{framed, spelled, spelled_at, spelled_items, spelled_fields}
 use Rattle.container.specs.Tables.{Tables, kind_place, text_place}
 use Rattle.container.specs.Folded.{is_folded, folded, folded_at, folded_fields, folded_items}
-use Rattle.tree_decoder.proofs.Accepts.{any_place, pattern_small, first_atom, other_atoms, front_atoms, back_atoms}
+use Rattle.container.proofs.Values.{item_eager}
+use Rattle.tree_decoder.proofs.EagerWhole.{neither, not_true}
+use Rattle.tree_decoder.proofs.Accepts.{kind_there, text_there, pattern_small, first_atom, other_atoms, front_atoms, back_atoms}
 use Rattle.tree_decoder.proofs.Nodes.{framed_item, item_atoms, item_spelled}
 
 pub record Same (a b : List Atom) (x y : List ℕ) : Type 0 where
@@ -42,19 +38,6 @@ pub record Same (a b : List Atom) (x y : List ℕ) : Type 0 where
   pub rest : x ≡ y
 
 -- ---- what stands in the tables
-
-kind_there : (s : Tables) (k : Kind) → has_atom s (kind k) ≡ true → slice_get s.kinds (kind_place s k) ≡ Some k
-kind_there s k e =
-    let found = any_place (λ j. same_kind j k) 0 s.kinds e in
-    let same : found.0 ≡ kind_place s k = sym (ap (λ (o : Option ℕ). unwrap_or o (length s.kinds)) found.1) in
-    ap (slice_get s.kinds) (sym same) ∙ kind_at_place s.kinds k found.0 found.1
-
-text_there : (s : Tables) (entry : Option (List ℕ)) → has_atom s (text entry) ≡ true → slice_get s.texts (text_place s entry) ≡ Some entry
-text_there s entry e =
-    let found = any_place (is_same entry) 0 s.texts e in
-    let place : place_in s.texts entry ≡ Some found.0 = position-from (is_same entry) s.texts ∙ found.1 in
-    let same : found.0 ≡ text_place s entry = sym (ap (λ (o : Option ℕ). unwrap_or o (length s.texts)) place) in
-    ap (slice_get s.texts) (sym same) ∙ slice_get-place_in s.texts entry found.0 place
 
 pub one_kind : (s : Tables) (j k : Kind) → has_atom s (kind j) ≡ true → has_atom s (kind k) ≡ true → kind_place s j ≡ kind_place s k → j ≡ k
 one_kind s j k p q same = let both : Some j ≡ Some k = sym (kind_there s j p) ∙ ap (slice_get s.kinds) same ∙ kind_there s k q in cc
@@ -202,14 +185,6 @@ BareIn ts ds es = (is_whole_in es ≡ true) ⊎ ((list_any is_lazy_type ts ≡ f
 abbrev BareItems : Data → Data → Type 0
 BareItems ds es = (is_whole_in es ≡ true) ⊎ (are_eager ds ≡ true)
 
-none_of : (a b : Bool) → (a || b) ≡ false → (a ≡ false) × (b ≡ false)
-none_of true b e = absurd cc
-none_of false b e = (refl, e)
-
-not_true : (a : Bool) → not a ≡ true → a ≡ false
-not_true true e = absurd cc
-not_true false e = refl
-
 lazy_whole : (u : Union) (v o : Datum) → Bare (field.Lazy u) v o → is_whole_at o ≡ true
 lazy_whole u v o (inl w) = w
 lazy_whole u v o (inr b) = let no : true ≡ false = b.0 in absurd cc
@@ -227,19 +202,15 @@ bare_list t ds o es w' (inr b) = inr b.1
 
 bare_first : (t : FieldType) (ts : List FieldType) (v o : Datum) (ds es : Data) → BareIn (t ∷ ts) (more v ds) (more o es) → Bare t v o
 bare_first t ts v o ds es (inl w) = inl (and_first (is_whole_at o) (is_whole_in es) w)
-bare_first t ts v o ds es (inr b) = inr ((none_of (is_lazy_type t) (list_any is_lazy_type ts) b.0).0, and_first (is_eager_at v) (are_eager ds) b.1)
+bare_first t ts v o ds es (inr b) = inr ((neither (is_lazy_type t) (list_any is_lazy_type ts) b.0).0, and_first (is_eager_at v) (are_eager ds) b.1)
 
 bare_rest : (t : FieldType) (ts : List FieldType) (v o : Datum) (ds es : Data) → BareIn (t ∷ ts) (more v ds) (more o es) → BareIn ts ds es
 bare_rest t ts v o ds es (inl w) = inl (and_second (is_whole_at o) (is_whole_in es) w)
-bare_rest t ts v o ds es (inr b) = inr ((none_of (is_lazy_type t) (list_any is_lazy_type ts) b.0).1, and_second (is_eager_at v) (are_eager ds) b.1)
-
-item_not_lazy : (u : Union) (holes : Bool) → is_lazy_type (item_type u holes) ≡ false
-item_not_lazy u true = refl
-item_not_lazy u false = refl
+bare_rest t ts v o ds es (inr b) = inr ((neither (is_lazy_type t) (list_any is_lazy_type ts) b.0).1, and_second (is_eager_at v) (are_eager ds) b.1)
 
 bare_item : (u : Union) (holes : Bool) (v o : Datum) (ds es : Data) → BareItems (more v ds) (more o es) → Bare (item_type u holes) v o
 bare_item u holes v o ds es (inl w) = inl (and_first (is_whole_at o) (is_whole_in es) w)
-bare_item u holes v o ds es (inr b) = inr (item_not_lazy u holes, and_first (is_eager_at v) (are_eager ds) b)
+bare_item u holes v o ds es (inr b) = inr (item_eager u holes, and_first (is_eager_at v) (are_eager ds) b)
 
 bare_items : (v o : Datum) (ds es : Data) → BareItems (more v ds) (more o es) → BareItems ds es
 bare_items v o ds es (inl w) = inl (and_second (is_whole_at o) (is_whole_in es) w)

@@ -1,7 +1,6 @@
 -- The machine takes the longest row of atoms, and answers the cause for the first due behind it.
-use Rattle.std.proofs.Common.{ℕ, zero, suc, ◌+◌, ◌-◌, ◌<◌, ◌≤◌, ◌≡◌, Bool, true, false, not, ◌&&◌, ◌||◌, cond, ltb, get_or, List, [], ◌∷◌, ◌++◌, Option, Some, None, Result, Ok, Err, refl, sym, ap, subst, ◌∙◌, arith, append-nil}
+use Rattle.std.proofs.Common.{ℕ, zero, suc, ◌+◌, ◌-◌, ◌<◌, ◌≤◌, ◌≡◌, Bool, true, false, ◌&&◌, get_or, List, [], ◌∷◌, ◌++◌, Option, Some, None, Result, Ok, Err, refl, sym, ap, subst, ◌∙◌, arith, append-nil}
 use Rattle.bast_base.specs.declared.errors.FormatFault.{FormatFault}
-use Rattle.bast_base.specs.declared.errors.Why.TheVariants.{BadKind, TooDeep}
 use Rattle.bast_schema.specs.declared.kind.FieldType.{FieldType}
 use Rattle.bast_schema.specs.declared.kind.FieldType.TheVariants as field
 use Rattle.bast_schema.specs.declared.kind.Kind.{Kind}
@@ -10,12 +9,11 @@ use Rattle.bast_schema.specs.declared.kind.Union.{Union}
 use Rattle.bast_schema.specs.Choices.{choice_texts}
 use Rattle.bast_schema.specs.Fields.{has_lazy}
 use Rattle.bast_schema.specs.Held.{Held, text_of, bytes_of}
-use Rattle.bast_schema.specs.Kinds.{counted, same_kind}
+use Rattle.bast_schema.specs.Kinds.{same_kind}
 use Rattle.bast_schema.specs.Tree.{Datum, flag, index, whole, name, no_name, choice, window, fits, item_type}
 use Rattle.bast_schema.specs.Unions.{allowed}
 use Rattle.bast_schema.proofs.Both.{and_first, and_second}
-use Rattle.std.specs.Prelude.{slice_get}
-use Rattle.container.specs.Answers.{fault, ◌>>=◌}
+use Rattle.container.specs.Answers.{◌>>=◌}
 use Rattle.container.specs.Atoms as atom
 use Rattle.container.specs.Atoms.{Atom, atoms_of}
 use Rattle.bast_schema.specs.Eager.{is_eager_at}
@@ -24,7 +22,7 @@ use Rattle.container.specs.Tables.{Tables}
 use Rattle.tree_decoder.specs.Dues.{Due, due, dues, times, children, Taken, taken, atom_of, atom_at}
 use Rattle.container.specs.Folded.{is_folded, folded_at}
 use Rattle.tree_decoder.specs.Left.{puts, then_left, dues_left}
-use Rattle.tree_decoder.specs.Numbers.{number_from, judged, kind_of_number, kind_at, count_at, leaf_at, is_leaf}
+use Rattle.tree_decoder.specs.Numbers.{kind_at, count_at, leaf_at, is_leaf}
 use Rattle.tree_decoder.specs.Outcome.{after, go, outcome_from}
 use Rattle.tree_decoder.specs.Range.{Range, IsSound, held, left}
 use Rattle.container.specs.SpelledAtom.{spelled_atom}
@@ -34,37 +32,8 @@ use Rattle.tree_decoder.proofs.Dues.{left_at, puts_plain, puts_null}
 use Rattle.tree_decoder.proofs.Moves.{atom_moves}
 use Rattle.tree_decoder.proofs.Nodes.{absent_stands, count_stands, kind_stands}
 use Rattle.tree_decoder.proofs.Single.{leaf_stands}
-use Rattle.tree_decoder.proofs.Spells.{bind_ok, guard_ok, is_ok, ok_is}
+use Rattle.tree_decoder.proofs.Spells.{bind_ok, is_ok, ok_is}
 use Rattle.tree_decoder.proofs.Whole.{named_at_where_stands}
-
--- ---- a kind inside a window is not lazy
-
-or_last : (a b : Bool) → (a || b) ≡ false → b ≡ false
-or_last true b e = absurd cc
-or_last false b e = e
-
-judged_plain : (u : Union) (d : ℕ) (w : Bool) (at next : ℕ) (j k : Kind) (m : ℕ) → judged u d w at next j ≡ Ok (Some k, m) → (w && has_lazy k) ≡ false
-judged_plain u d w at next j k m e =
-    let g = guard_ok (not (allowed u j) || (w && has_lazy j)) (fault at BadKind) (cond (counted j && ltb 512 d) (Err (fault at TooDeep)) (Ok (Some j, next))) (Some k, m) e in
-    let h = guard_ok (counted j && ltb 512 d) (fault at TooDeep) (Ok (Some j, next)) (Some k, m) g.1 in
-    let is : (Some j, next) ≡ (Some k, m) = ok_is _ _ h.1 in
-    let kind : Some j ≡ Some k = ap (λ (p : Option Kind × ℕ). p.0) is in
-    let same : j ≡ k = cc in
-    rw (← same) (or_last (not (allowed u j)) (w && has_lazy j) g.0)
-
-chosen_plain : (b : Bool) (u : Union) (d : ℕ) (w : Bool) (at next : ℕ) (j k : Kind) (m : ℕ) → cond b (is_ok (None, next)) (judged u d w at next j) ≡ Ok (Some k, m) → (w && has_lazy k) ≡ false
-chosen_plain true u d w at next j k m e = let is : (None, next) ≡ (Some k, m) = ok_is _ _ e in let kind : None ≡ Some k = ap (λ (p : Option Kind × ℕ). p.0) is in absurd cc
-chosen_plain false u d w at next j k m e = judged_plain u d w at next j k m e
-
-numbered_plain : (o : Option Kind) (u : Union) (optional : Bool) (d : ℕ) (w : Bool) (at next : ℕ) (k : Kind) (m : ℕ) → kind_of_number u optional d w at next o ≡ Ok (Some k, m) → (w && has_lazy k) ≡ false
-numbered_plain None u optional d w at next k m e = absurd cc
-numbered_plain (Some j) u optional d w at next k m e = chosen_plain (optional && same_kind j Null) u d w at next j k m e
-
-kind_plain : (r : Range) (u : Union) (optional : Bool) (d : ℕ) (w : Bool) (at : ℕ) (k : Kind) (m : ℕ) → kind_at r u optional d w at ≡ Ok (Some k, m) → (w && has_lazy k) ≡ false
-unfolding kind_at
-kind_plain r u optional d w at k m e =
-    let b = bind_ok (number_from r at) (λ n. kind_of_number u optional d w at n.1 (slice_get r.tables.kinds n.0)) (Some k, m) e in
-    numbered_plain (slice_get r.tables.kinds b.0.0) u optional d w at b.0.1 k m b.2
 
 -- ---- one atom
 
@@ -85,7 +54,7 @@ absent_puts u false d w is = absurd cc
 node_step : (r : Range) (u : Union) (optional : Bool) (d : ℕ) (w : Bool) (at : ℕ) (o : Option Kind) (m : ℕ) → IsSound r → at ≤ r.end → kind_at r u optional d w at ≡ Ok (o, m) → Step r (item_type u optional) d w at (taken (children o d w) [] m)
 node_step r u optional d w at (Some k) m sound order e =
     let k-stands = kind_stands r u optional d w at k m sound order e in
-    record { atom = atom.kind k; spelled = k-stands.spelled; puts = node_puts u optional d w k k-stands.allowed (kind_plain r u optional d w at k m e) }
+    record { atom = atom.kind k; spelled = k-stands.spelled; puts = node_puts u optional d w k k-stands.allowed k-stands.plain }
 node_step r u optional d w at None m sound order e =
     let none-stands = absent_stands r u optional d w at m sound order e in
     record { atom = atom.kind Null; spelled = none-stands.0; puts = absent_puts u optional d w none-stands.1 }
@@ -149,14 +118,7 @@ atom_step : (r : Range) (t : FieldType) (d : ℕ) (w : Bool) (at : ℕ) (y : Tak
 atom_step r (field.Node u) d w at y sound order e = node_taken r u false d w at y sound order e
 atom_step r (field.Optional u) d w at y sound order e = node_taken r u true d w at y sound order e
 atom_step r (field.List u holes filled) d w at y sound order e = list_taken r u holes filled d w at y sound order e
-atom_step r field.Bool d w at y sound order e = leaf_taken r field.Bool d w at y sound order refl e
-atom_step r field.Index d w at y sound order e = leaf_taken r field.Index d w at y sound order refl e
-atom_step r field.Whole d w at y sound order e = leaf_taken r field.Whole d w at y sound order refl e
-atom_step r field.Text d w at y sound order e = leaf_taken r field.Text d w at y sound order refl e
-atom_step r field.Name d w at y sound order e = leaf_taken r field.Name d w at y sound order refl e
-atom_step r field.Label d w at y sound order e = leaf_taken r field.Label d w at y sound order refl e
-atom_step r (field.Choice set) d w at y sound order e = leaf_taken r (field.Choice set) d w at y sound order refl e
-atom_step r (field.Lazy u) d w at y sound order e = leaf_taken r (field.Lazy u) d w at y sound order refl e
+atom_step r t d w at y sound order e = leaf_taken r t d w at y sound order refl e
 
 -- ---- the row
 

@@ -11,7 +11,7 @@ use Rattle.bast_schema.specs.Held.{Held}
 use Rattle.bast_schema.specs.Counts.{join}
 use Rattle.bast_schema.specs.Tree.{Datum, Data, none, more, fits, fit, depth_in}
 use Rattle.bast_schema.specs.View.{datum, data_of}
-use Rattle.bast_schema.proofs.Both.{and_first, and_second}
+use Rattle.bast_schema.proofs.Both.{and_first, and_second, both}
 use Rattle.bast_schema.proofs.Sums.{data_of_append}
 use Rattle.container.specs.Atoms.{atoms_of, atoms_of_fields}
 use Rattle.container.specs.InFile.{has_atom}
@@ -35,10 +35,6 @@ dues_both (u ∷ front) back d w ds = ap (λ es. due u d w ∷ es) (dues_both fr
 and_both : (a b c : Bool) → (a && b) ≡ true → (b ≡ true → c ≡ true) → (a && c) ≡ true
 and_both true b c e f = f e
 and_both false b c e f = cc
-
-both_true : (a b : Bool) → a ≡ true → b ≡ true → (a && b) ≡ true
-both_true true b p q = q
-both_true false b p q = cc
 
 -- ---- the values of one list of types and then those of another
 
@@ -72,7 +68,7 @@ has_both : (s : Tables) (h : Held) (ts us : List FieldType) (vs ws : Data) → f
 has_both s h ts us vs ws fit_ok front last =
     ap (list_all (has_atom s)) (atoms_both h ts us vs ws fit_ok)
     ∙ list_all-append (has_atom s) (atoms_of_fields h ts vs) (atoms_of_fields h us ws)
-    ∙ both_true _ _ front last
+    ∙ both _ _ front last
 
 folded_both : (ts us : List FieldType) (vs ws : Data) → fit ts vs ≡ true → folded_fields ts vs ≡ true → folded_fields us ws ≡ true → folded_fields (ts ++ us) (join vs ws) ≡ true
 folded_both [] us none ws fit_ok e f = f
@@ -80,8 +76,8 @@ folded_both [] us (more v vs) ws fit_ok e f = cc
 folded_both (t ∷ ts) us none ws fit_ok e f = cc
 folded_both (t ∷ ts) us (more v vs) ws fit_ok e f =
     let rest = and_second (is_folded t v) (folded_at v && folded_fields ts vs) e in
-    both_true (is_folded t v) (folded_at v && folded_fields (ts ++ us) (join vs ws)) (and_first (is_folded t v) (folded_at v && folded_fields ts vs) e)
-    (both_true (folded_at v) (folded_fields (ts ++ us) (join vs ws)) (and_first (folded_at v) (folded_fields ts vs) rest)
+    both (is_folded t v) (folded_at v && folded_fields (ts ++ us) (join vs ws)) (and_first (is_folded t v) (folded_at v && folded_fields ts vs) e)
+    (both (folded_at v) (folded_fields (ts ++ us) (join vs ws)) (and_first (folded_at v) (folded_fields ts vs) rest)
     (folded_both ts us vs ws (and_second (fits t v) (fit ts vs) fit_ok) (and_second (folded_at v) (folded_fields ts vs) rest) f))
 
 depth_both : (d : ℕ) (vs ws : Data) → depth_in vs + d ≤ 513 → depth_in ws + d ≤ 513 → depth_in (join vs ws) + d ≤ 513
@@ -101,11 +97,11 @@ run_one r t d w a b v f =
     record {
       goes_on = λ ds. f.goes_on ds ∙ ap (λ ws. behind ws (outcome_from r ds b)) (sym (append-nil (windows_at v)));
       spelled = f.spelled ∙ ap (λ x. x ++ left r b) (sym (append-nil (framed t (spelled_at r.tables (held r) t v))));
-      fits = both_true (fits t v) true f.fits refl;
+      fits = both (fits t v) true f.fits refl;
       depth = omega arith;
-      stands = both_true (stands_at r v) true f.stands refl;
+      stands = both (stands_at r v) true f.stands refl;
       has_all = ap (list_all (has_atom r.tables)) (append-nil (atoms_of (held r) t v)) ∙ f.has_all;
-      folded = both_true (is_folded t v) (folded_at v && true) (and_first (is_folded t v) (folded_at v) f.folded) (both_true (folded_at v) true (and_second (is_folded t v) (folded_at v) f.folded) refl);
+      folded = both (is_folded t v) (folded_at v && true) (and_first (is_folded t v) (folded_at v) f.folded) (both (folded_at v) true (and_second (is_folded t v) (folded_at v) f.folded) refl);
       forward = omega arith;
       within = f.within;
     }

@@ -1,5 +1,5 @@
 -- Trees with the same atoms are the same but for the numbers of names and the places of windows.
-use Rattle.std.proofs.Common.{ℕ, zero, suc, ◌<◌, ◌≡◌, Bool, true, false, not, ◌&&◌, ◌||◌, List, [], ◌∷◌, ◌++◌, length, Option, Some, None, is_some, get_or, refl, sym, ap, subst, ◌∙◌, append_assoc, slice_get, arith}
+use Rattle.std.proofs.Common.{ℕ, suc, ◌<◌, ◌≡◌, Bool, true, false, not, ◌&&◌, ◌||◌, List, [], ◌∷◌, ◌++◌, length, Option, Some, None, is_some, get_or, refl, sym, ap, subst, ◌∙◌, append_assoc, arith}
 use Rattle.std.specs.List.{list_all}
 use Rattle.std.proofs.lemmas.Bool.{ltb-true}
 use Rattle.bast_schema.specs.declared.kind.FieldType.{FieldType}
@@ -15,25 +15,16 @@ use Rattle.bast_schema.specs.Held.{Held, text_of, bytes_of}
 use Rattle.bast_schema.specs.Tree.{Tree, branch, Datum, child, absent, listed, flag, index, whole, name, no_name, choice, window, Data, none, more, typed, fits, fit, items_fit, item_type, is_none, count}
 use Rattle.bast_schema.specs.Unions.{allowed}
 use Rattle.bast_schema.proofs.Both.{and_first, and_second}
-use Rattle.bast_schema.proofs.ChoiceTexts.{choice_of_its_text}
 use Rattle.container.specs.Atoms as atom
 use Rattle.container.specs.Atoms.{Atom, atoms, atoms_of, atoms_of_fields, atoms_of_items}
 use Rattle.container.specs.Named.{named, named_at, all_named}
 use Rattle.tree_decoder.specs.SameTree.{IsSameTree, IsSame, AreSame}
+use Rattle.tree_decoder.proofs.Accepts.{choice_text_of}
 use Rattle.tree_decoder.proofs.NoNull.{no_null, fields_no_null, item_no_null, not_null}
 use Rattle.tree_decoder.proofs.Nodes.{item_atoms}
 
 pub one_choice : (e : EnumId) (n m : ℕ) → n < length (choice_texts e) → m < length (choice_texts e) → get_or (choice_texts e) n [] ≡ get_or (choice_texts e) m [] → n ≡ m
-one_choice e n m p q same =
-    let a = choice_of_its_text e n (get_or (choice_texts e) n []) (get_there (choice_texts e) n p) in
-    let b = choice_of_its_text e m (get_or (choice_texts e) m []) (get_there (choice_texts e) m q) in
-    let both : Some n ≡ Some m = sym a ∙ ap (choice_of_text e) same ∙ b in
-    cc
-  where
-    get_there : (texts : List (List ℕ)) (i : ℕ) → i < length texts → slice_get texts i ≡ Some (get_or texts i [])
-    get_there [] i less = absurd (omega arith)
-    get_there (x ∷ texts) zero less = refl
-    get_there (x ∷ texts) (suc i) less = get_there texts i (omega arith)
+one_choice e n m p q same = let both : Some n ≡ Some m = sym (choice_text_of e n p) ∙ ap (choice_of_text e) same ∙ choice_text_of e m q in cc
 
 -- ---- two values with the same atoms, one after the other
 

@@ -20,6 +20,7 @@ use Rattle.bast_schema.specs.declared.kind.EnumId.{EnumId}
 use Rattle.bast_schema.specs.declared.kind.FieldType.{FieldType}
 use Rattle.bast_schema.specs.declared.kind.FieldType.TheVariants as field
 use Rattle.bast_schema.specs.declared.kind.Union.{Union}
+use Rattle.bast_schema.proofs.Both.{both}
 use Rattle.bast_schema.specs.Choices.{choice_texts, choice_of_text}
 use Rattle.bast_schema.specs.Held.{text_of, bytes_of}
 use Rattle.bast_schema.specs.Tree.{Datum, flag, index, whole, name, no_name, choice, window, fits, depth_at}
@@ -33,19 +34,16 @@ use Rattle.container.specs.Tables.{Tables, text_place}
 use Rattle.tree_decoder.specs.Dues.{Due, due, taken, atom_of}
 use Rattle.tree_decoder.specs.Found.{Found, Fails, SpentFails, Spent, stands_at, is_text}
 use Rattle.container.specs.Answers.{fault, ◌>>=◌}
-use Rattle.tree_decoder.specs.Numbers.{number_from, name_of, label_of, variant_of, choice_at, window_of, whole_with, whole_or, whole_at, flag_of, flag_at, numbered, leaf_at, is_leaf}
+use Rattle.tree_decoder.specs.Numbers.{number_from, name_of, label_of, variant_of, choice_at, window_of, whole_with, whole_or, whole_at, flag_at, numbered, leaf_at, is_leaf}
 use Rattle.container.specs.Folded.{is_folded, folded_at}
 use Rattle.tree_decoder.specs.Outcome.{Outcome, outcome_from}
 use Rattle.tree_decoder.specs.Range.{Range, IsSound, held, left}
 use Rattle.tree_decoder.specs.Windows.{windows_at}
 use Rattle.tree_decoder.proofs.Machine.{from_step, from_fails}
-use Rattle.tree_decoder.proofs.Moves.{leaf_moves}
-use Rattle.tree_decoder.proofs.Spells.{bind_ok, guard_ok, is_ok, ok_is, number_spells, range_split}
+use Rattle.tree_decoder.proofs.Moves.{inside_end, leaf_moves}
+use Rattle.container.proofs.Ranges.{range_split}
+use Rattle.tree_decoder.proofs.Spells.{bind_ok, guard_ok, is_ok, ok_is, number_spells}
 use Rattle.tree_decoder.proofs.Wholes.{whole_is}
-
-both_true : (a b : Bool) → a ≡ true → b ≡ true → (a && b) ≡ true
-both_true true b p q = q
-both_true false b p q = cc
 
 or_true : (a b : Bool) → b ≡ true → (a || b) ≡ true
 or_true true b e = refl
@@ -70,7 +68,7 @@ made r t at v next x e sp f g st ha fo = subst (λ (y : Datum × ℕ). Stands r 
 -- ---- texts
 
 one_has : (s : Tables) (a : Atom) → has_atom s a ≡ true → list_all (has_atom s) (a ∷ []) ≡ true
-one_has s a e = both_true (has_atom s a) true e refl
+one_has s a e = both (has_atom s a) true e refl
 
 -- an entry stands in the table
 entry_has : (r : Range) (n : ℕ) (entry : Option (List ℕ)) → slice_get r.tables.texts n ≡ Some entry → has_atom r.tables (text entry) ≡ true
@@ -91,7 +89,7 @@ name_place r n words sound is = ap (text_place r.tables) (entry_text r n (Some w
 
 name_stands : (r : Range) (t : FieldType) (at n next : ℕ) (o : Option (Option (List ℕ))) (x : Datum × ℕ) → IsSound r → slice_get r.tables.texts n ≡ o → left r at ≡ varnum n ++ left r next → ((m : ℕ) → fits t (name m) ≡ true) → ((m : ℕ) → is_folded t (name m) ≡ true) → ((bytes : List ℕ) → framed t bytes ≡ bytes) → name_of at n next o ≡ Ok x → Stands r t at x
 name_stands r t at n next (Some (Some words)) x sound is sp fit fold plain e =
-    made r t at (name n) next x (ok_is _ _ e) (spelled_as r at _ n next (name_place r n words sound is) sp ∙ ap (λ (b : List ℕ). b ++ left r next) (sym (plain (varnum (text_place r.tables (text_of (held r) n)))))) (fit n) refl (ap is_text is) (one_has r.tables (text (text_of (held r) n)) (ap (λ (o : Option (List ℕ)). has_atom r.tables (text o)) (entry_text r n (Some words) is) ∙ entry_has r n (Some words) is)) (both_true _ true (fold n) refl)
+    made r t at (name n) next x (ok_is _ _ e) (spelled_as r at _ n next (name_place r n words sound is) sp ∙ ap (λ (b : List ℕ). b ++ left r next) (sym (plain (varnum (text_place r.tables (text_of (held r) n)))))) (fit n) refl (ap is_text is) (one_has r.tables (text (text_of (held r) n)) (ap (λ (o : Option (List ℕ)). has_atom r.tables (text o)) (entry_text r n (Some words) is) ∙ entry_has r n (Some words) is)) (both _ true (fold n) refl)
 name_stands r t at n next (Some None) x sound is sp fit fold plain e = absurd cc
 name_stands r t at n next None x sound is sp fit fold plain e = absurd cc
 
@@ -133,7 +131,7 @@ window_stands : (r : Range) (u : Union) (at n next : ℕ) (x : Datum × ℕ) →
 window_stands r u at n next x sound sp e =
     let g = guard_ok (ltb r.end (next + n)) (fault r.end Ended) (is_ok (window next (next + n), next + n)) x e in
     let far : next + n ≤ r.end = ltb-false _ _ g.0 in
-    made r (field.Lazy u) at (window next (next + n)) (next + n) x (ok_is _ _ g.1) (window_spelled r u at n next sound far sp) refl refl (both_true _ _ (is_le next (next + n) (omega arith)) (is_le (next + n) r.end far)) refl refl
+    made r (field.Lazy u) at (window next (next + n)) (next + n) x (ok_is _ _ g.1) (window_spelled r u at n next sound far sp) refl refl (both _ _ (is_le next (next + n) (omega arith)) (is_le (next + n) r.end far)) refl refl
 
 -- ---- by a number
 
@@ -144,11 +142,7 @@ numbered_stands r field.Name at n next x sound sp less e = name_stands r field.N
 numbered_stands r field.Label at n next x sound sp less e = label_stands r at n next _ x sound refl sp e
 numbered_stands r (field.Choice set) at n next x sound sp less e = choice_stands r set at n next _ x sound refl sp e
 numbered_stands r (field.Lazy u) at n next x sound sp less e = window_stands r u at n next x sound sp e
-numbered_stands r field.Bool at n next x sound sp less e = absurd cc
-numbered_stands r field.Whole at n next x sound sp less e = absurd cc
-numbered_stands r (field.Node u) at n next x sound sp less e = absurd cc
-numbered_stands r (field.Optional u) at n next x sound sp less e = absurd cc
-numbered_stands r (field.List u holes filled) at n next x sound sp less e = absurd cc
+numbered_stands r _ at n next x sound sp less e = absurd cc
 
 by_number : (r : Range) (t : FieldType) (at : ℕ) (x : Datum × ℕ) → IsSound r → at ≤ r.end → (number_from r at >>= λ n. numbered r t at n.0 n.1) ≡ Ok x → Stands r t at x
 by_number r t at x sound order e =
@@ -172,14 +166,10 @@ bool_stands r at n true b x p q sp e = let z : n ≡ 0 = eqb-true _ _ p in made 
 bool_stands r at n false true x p q sp e = let z : n ≡ 1 = eqb-true _ _ q in made r field.Bool at (flag true) (at + 1) x (ok_is _ _ e) (sp ∙ ap (λ (k : ℕ). k ∷ left r (at + 1)) z) refl refl refl refl refl
 bool_stands r at n false false x p q sp e = absurd cc
 
-before_end : (r : Range) (at : ℕ) (b : Bool) (x : Datum × ℕ) → cond b (flag_of at (slice_index r.tape at)) (Err (fault r.end Ended)) ≡ Ok x → (b ≡ true) × (flag_of at (slice_index r.tape at) ≡ Ok x)
-before_end r at true x e = (refl, e)
-before_end r at false x e = absurd cc
-
 flag_stands : (r : Range) (at : ℕ) (x : Datum × ℕ) → IsSound r → flag_at r at ≡ Ok x → Stands r field.Bool at x
 unfolding flag_at
 flag_stands r at x sound e =
-    let g = before_end r at (ltb at r.end) x e in
+    let g = inside_end r at (ltb at r.end) x e in
     bool_stands r at (slice_index r.tape at) (eqb (slice_index r.tape at) 0) (eqb (slice_index r.tape at) 1) x refl refl (first_byte r at sound (ltb-true _ _ g.0)) g.1
 
 range_byte : (r : Range) (a b i : ℕ) → IsSound r → a ≤ b → b ≤ length r.tape → All (λ byte. byte < 256) (slice_range r.tape a b) → get_or (slice_range r.tape a b) i 0 < 256
@@ -216,28 +206,16 @@ whole_stands r at x sound e =
 pub leaf_stands : (r : Range) (t : FieldType) (at : ℕ) (x : Datum × ℕ) → IsSound r → at ≤ r.end → is_leaf t ≡ true → leaf_at r t at ≡ Ok x → Stands r t at x
 leaf_stands r field.Bool at x sound order leaf e = flag_stands r at x sound e
 leaf_stands r field.Whole at x sound order leaf e = whole_stands r at x sound e
-leaf_stands r field.Index at x sound order leaf e = by_number r field.Index at x sound order e
-leaf_stands r field.Text at x sound order leaf e = by_number r field.Text at x sound order e
-leaf_stands r field.Name at x sound order leaf e = by_number r field.Name at x sound order e
-leaf_stands r field.Label at x sound order leaf e = by_number r field.Label at x sound order e
-leaf_stands r (field.Choice set) at x sound order leaf e = by_number r (field.Choice set) at x sound order e
-leaf_stands r (field.Lazy u) at x sound order leaf e = by_number r (field.Lazy u) at x sound order e
 leaf_stands r (field.Node u) at x sound order leaf e = absurd cc
 leaf_stands r (field.Optional u) at x sound order leaf e = absurd cc
 leaf_stands r (field.List u holes filled) at x sound order leaf e = absurd cc
+leaf_stands r t at x sound order leaf e = by_number r t at x sound order e
 
 pub leaf_atom : (r : Range) (t : FieldType) (d : ℕ) (w : Bool) (at : ℕ) (q : Result (Datum × ℕ) FormatFault) → is_leaf t ≡ true → leaf_at r t at ≡ q → atom_of r t d w at ≡ (q >>= λ v. is_ok (taken [] (windows_at v.0) v.1))
 leaf_atom r (field.Node u) d w at q leaf e = absurd cc
 leaf_atom r (field.Optional u) d w at q leaf e = absurd cc
 leaf_atom r (field.List u holes filled) d w at q leaf e = absurd cc
-leaf_atom r field.Bool d w at q leaf e = ap (λ p. p >>= λ v. is_ok (taken [] (windows_at v.0) v.1)) e
-leaf_atom r field.Index d w at q leaf e = ap (λ p. p >>= λ v. is_ok (taken [] (windows_at v.0) v.1)) e
-leaf_atom r field.Whole d w at q leaf e = ap (λ p. p >>= λ v. is_ok (taken [] (windows_at v.0) v.1)) e
-leaf_atom r field.Text d w at q leaf e = ap (λ p. p >>= λ v. is_ok (taken [] (windows_at v.0) v.1)) e
-leaf_atom r field.Name d w at q leaf e = ap (λ p. p >>= λ v. is_ok (taken [] (windows_at v.0) v.1)) e
-leaf_atom r field.Label d w at q leaf e = ap (λ p. p >>= λ v. is_ok (taken [] (windows_at v.0) v.1)) e
-leaf_atom r (field.Choice set) d w at q leaf e = ap (λ p. p >>= λ v. is_ok (taken [] (windows_at v.0) v.1)) e
-leaf_atom r (field.Lazy u) d w at q leaf e = ap (λ p. p >>= λ v. is_ok (taken [] (windows_at v.0) v.1)) e
+leaf_atom r _ d w at q leaf e = ap (λ p. p >>= λ v. is_ok (taken [] (windows_at v.0) v.1)) e
 
 pub leaf_found : (r : Range) (t : FieldType) (d : ℕ) (w : Bool) (at : ℕ) (x : Datum × ℕ) → IsSound r → at ≤ r.end → d ≤ 513 → is_leaf t ≡ true → leaf_at r t at ≡ Ok x → Found r t d w at x.0 x.1
 leaf_found r t d w at x sound order small leaf e =

@@ -1,7 +1,6 @@
 -- A number that is read is spelled by the bytes that were passed.
 use Rattle.std.proofs.Common.{ℕ, ◌+◌, ◌-◌, ◌^◌, ◌<◌, ◌≤◌, ◌≡◌, Bool, true, false, cond, List, ◌++◌, length, take, drop, slice_range, Result, Ok, Err, refl, ap, subst, ◌∙◌, arith, length-append}
 use Rattle.std.specs.List.{All}
-use Rattle.std.proofs.Math.Seq.{take-add}
 use Rattle.std.proofs.lemmas.List.{drop-take, drop-drop}
 use Rattle.std.proofs.lemmas.List.Elements.{All-take, All-drop}
 use Rattle.bast_base.specs.declared.errors.FormatFault.{FormatFault}
@@ -35,16 +34,6 @@ guard_ok false d r y e = (refl, e)
 pub chosen_ok : {A : Type 0} (b : Bool) (x : A) (d : FormatFault) (y : A) → cond b (is_ok x) (Err d) ≡ Ok y → (b ≡ true) × (x ≡ y)
 chosen_ok true x d y e = (refl, cc)
 chosen_ok false x d y e = absurd cc
-
--- a range is its front and the rest
-pub range_split : (tape : List ℕ) (a b e : ℕ) → a ≤ b → b ≤ e → slice_range tape a e ≡ slice_range tape a b ++ slice_range tape b e
-range_split tape a b e first second =
-    let whole : e - a ≡ (b - a) + (e - b) = omega arith in
-    let there : a + (b - a) ≡ b = omega arith in
-    ap (λ (n : ℕ). take n (drop a tape)) whole
-    ∙ take-add (b - a) (e - b) (drop a tape)
-    ∙ ap (λ (xs : List ℕ). slice_range tape a b ++ take (e - b) xs) (drop-drop (b - a) a tape)
-    ∙ ap (λ (n : ℕ). slice_range tape a b ++ take (e - b) (drop n tape)) there
 
 pub range_drop : (tape : List ℕ) (a n e : ℕ) → a + n ≤ e → drop n (slice_range tape a e) ≡ slice_range tape (a + n) e
 range_drop tape a n e order =

@@ -60,11 +60,7 @@ numbered_passes r (field.Choice set) at n next x e = by_entry _ e
     by_entry (Some None) h = absurd cc
     by_entry None h = absurd cc
 numbered_passes r (field.Lazy u) at n next x e = window_passes r n next x e
-numbered_passes r field.Bool at n next x e = absurd cc
-numbered_passes r field.Whole at n next x e = absurd cc
-numbered_passes r (field.Node u) at n next x e = absurd cc
-numbered_passes r (field.Optional u) at n next x e = absurd cc
-numbered_passes r (field.List u holes filled) at n next x e = absurd cc
+numbered_passes r _ at n next x e = absurd cc
 
 pub numbered_spends : (r : Range) (t : FieldType) (at n next old new : ℕ) (res : Result (Value × ℕ) FormatFault) → Gives res (numbered r t at n next) → new ≤ old + (next - at) → at ≤ next → next ≤ r.end → SpendsLeaf r at old new res
 numbered_spends r t at n next old new (Ok x) e spent order within = (numbered_passes r t at n next (datum x.0, x.1) e).spent at old new order spent
@@ -77,12 +73,4 @@ numbered_gives r t at n next read (Err f) e is = is ∙ e
 pub leaf_number : (r : Range) (t : FieldType) (at : ℕ) (x : ℕ × ℕ) → (t ≡ field.Bool → ⊥) → (t ≡ field.Whole → ⊥) → number_from r at ≡ is_ok x → leaf_at r t at ≡ numbered r t at x.0 x.1
 leaf_number r field.Bool at x flag long e = absurd (flag refl)
 leaf_number r field.Whole at x flag long e = absurd (long refl)
-leaf_number r field.Index at x flag long e = ap (λ n. n >>= λ y. numbered r field.Index at y.0 y.1) e
-leaf_number r field.Text at x flag long e = ap (λ n. n >>= λ y. numbered r field.Text at y.0 y.1) e
-leaf_number r field.Name at x flag long e = ap (λ n. n >>= λ y. numbered r field.Name at y.0 y.1) e
-leaf_number r field.Label at x flag long e = ap (λ n. n >>= λ y. numbered r field.Label at y.0 y.1) e
-leaf_number r (field.Choice set) at x flag long e = ap (λ n. n >>= λ y. numbered r (field.Choice set) at y.0 y.1) e
-leaf_number r (field.Lazy u) at x flag long e = ap (λ n. n >>= λ y. numbered r (field.Lazy u) at y.0 y.1) e
-leaf_number r (field.Node u) at x flag long e = ap (λ n. n >>= λ y. numbered r (field.Node u) at y.0 y.1) e
-leaf_number r (field.Optional u) at x flag long e = ap (λ n. n >>= λ y. numbered r (field.Optional u) at y.0 y.1) e
-leaf_number r (field.List u holes filled) at x flag long e = ap (λ n. n >>= λ y. numbered r (field.List u holes filled) at y.0 y.1) e
+leaf_number r t at x flag long e = ap (λ n. n >>= λ y. numbered r t at y.0 y.1) e

@@ -9,7 +9,7 @@ use Rattle.bast_schema.specs.declared.kind.Kind.{Kind}
 use Rattle.bast_schema.specs.declared.kind.Union.{Union}
 use Rattle.bast_schema.specs.Fields.{fields}
 use Rattle.bast_schema.specs.Kinds.{counted}
-use Rattle.bast_schema.specs.Tree.{Tree, branch, Datum, child, absent, listed, flag, index, whole, name, no_name, choice, window, Data, none, more, item_type}
+use Rattle.bast_schema.specs.Tree.{Tree, branch, Datum, child, absent, listed, Data, none, more, item_type}
 use Rattle.container.specs.Answers.{fault, ◌>>=◌}
 use Rattle.tree_decoder.specs.Dues.{Due, due, dues, times, below, children, Taken, taken, atom_of, atom_at}
 use Rattle.tree_decoder.specs.Found.{Found, Run}
@@ -123,14 +123,7 @@ by_type : (r : Range) (n : ℕ) (t : FieldType) (d : ℕ) (w : Bool) (ds : List 
 by_type r n (field.Node u) d w ds at y here e clear = by_kind r n u false d w ds at y here e clear
 by_type r n (field.Optional u) d w ds at y here e clear = by_kind r n u true d w ds at y here e clear
 by_type r n (field.List u holes filled) d w ds at y here e clear = by_count r n u holes filled d w ds at y here e clear
-by_type r n field.Bool d w ds at y here e clear = by_leaf r n field.Bool d w ds at y here refl e clear
-by_type r n field.Index d w ds at y here e clear = by_leaf r n field.Index d w ds at y here refl e clear
-by_type r n field.Whole d w ds at y here e clear = by_leaf r n field.Whole d w ds at y here refl e clear
-by_type r n field.Text d w ds at y here e clear = by_leaf r n field.Text d w ds at y here refl e clear
-by_type r n field.Name d w ds at y here e clear = by_leaf r n field.Name d w ds at y here refl e clear
-by_type r n field.Label d w ds at y here e clear = by_leaf r n field.Label d w ds at y here refl e clear
-by_type r n (field.Choice set) d w ds at y here e clear = by_leaf r n (field.Choice set) d w ds at y here refl e clear
-by_type r n (field.Lazy u) d w ds at y here e clear = by_leaf r n (field.Lazy u) d w ds at y here refl e clear
+by_type r n t d w ds at y here e clear = by_leaf r n t d w ds at y here refl e clear
 
 -- ---- atom after atom
 
@@ -153,15 +146,7 @@ each r (suc n) sound (x ∷ ds) at order enough shallow clear =
 
 one_node : (r : Range) (at : ℕ) (v : Datum) (next : ℕ) → Found r script 1 false at v next → r.end ≤ next → (t : Tree) × IsScript r at t
 one_node r at (child t) next found all = (t, script_stands r at t next found all)
-one_node r at absent next found all = let bad : false ≡ true = found.fits in absurd cc
-one_node r at (listed ds) next found all = let bad : false ≡ true = found.fits in absurd cc
-one_node r at (flag b) next found all = let bad : false ≡ true = found.fits in absurd cc
-one_node r at (index n) next found all = let bad : false ≡ true = found.fits in absurd cc
-one_node r at (whole n) next found all = let bad : false ≡ true = found.fits in absurd cc
-one_node r at (name n) next found all = let bad : false ≡ true = found.fits in absurd cc
-one_node r at no_name next found all = let bad : false ≡ true = found.fits in absurd cc
-one_node r at (choice n) next found all = let bad : false ≡ true = found.fits in absurd cc
-one_node r at (window from to) next found all = let bad : false ≡ true = found.fits in absurd cc
+one_node r at _ next found all = let bad : false ≡ true = found.fits in absurd cc
 
 pub script_there : (r : Range) (at : ℕ) → IsSound r → at ≤ r.end → (script_outcome r at).fault ≡ None → (t : Tree) × IsScript r at t
 unfolding outcome_from

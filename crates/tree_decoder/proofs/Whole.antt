@@ -6,15 +6,14 @@ use Rattle.std.proofs.lemmas.Option.{get_or_from_slice_get}
 use Rattle.bast_schema.specs.Counts.{is_whole, is_whole_at, is_whole_in, size}
 use Rattle.bast_schema.specs.Eager.{is_eager, is_eager_at, are_eager}
 use Rattle.bast_schema.specs.Held.{Held, text_of}
-use Rattle.bast_schema.specs.Tree.{Tree, branch, Datum, child, absent, listed, flag, index, whole, name, no_name, choice, window, Data, none, more, typed, fits, fit, items_fit, item_type, is_none, kind_of}
+use Rattle.bast_schema.specs.Tree.{Tree, branch, Datum, child, absent, listed, name, window, Data, none, more, typed, fits, fit, items_fit, item_type, is_none, kind_of}
 use Rattle.bast_schema.specs.Unions.{allowed}
-use Rattle.bast_schema.proofs.Both.{and_first, and_second}
+use Rattle.bast_schema.proofs.Both.{and_first, and_second, both}
 use Rattle.container.specs.Atoms.{atoms}
-use Rattle.container.specs.InFile.{is_unnested, is_unnested_at, are_unnested, are_unnested_fields}
+use Rattle.container.specs.InFile.{is_unnested}
 use Rattle.bast_schema.specs.declared.kind.FieldType.{FieldType}
 use Rattle.bast_schema.specs.declared.kind.FieldType.TheVariants as field
 use Rattle.bast_schema.specs.declared.kind.Union.{Union}
-use Rattle.bast_schema.specs.declared.kind.Union.TheVariants.{Body}
 use Rattle.bast_schema.specs.Fields.{fields, has_lazy, is_lazy_type}
 use Rattle.container.specs.Folded.{is_folded, folded, folded_at, folded_fields, folded_items}
 use Rattle.tree_decoder.specs.Found.{is_text, stands, stands_at, all_stand}
@@ -23,9 +22,10 @@ use Rattle.tree_decoder.specs.SameTree.{IsSameTree}
 use Rattle.tree_decoder.specs.Script.{IsScript}
 use Rattle.container.specs.Named.{named, named_at, all_named}
 use Rattle.container.specs.Spelled.{spelled}
+use Rattle.container.proofs.ByAtoms.{eager_is_unnested}
 use Rattle.container.proofs.SizeSpelled.{size_spelled}
 use Rattle.tree_decoder.specs.Spelt.{IsSpelt}
-use Rattle.tree_decoder.proofs.Nodes.{and_true, plain_item}
+use Rattle.tree_decoder.proofs.Nodes.{plain_item}
 use Rattle.tree_decoder.proofs.OneTree.{one_eager_tree, one_folded_tree}
 use Rattle.tree_decoder.proofs.SameTree.{same_tree}
 use Rattle.tree_decoder.proofs.Spells.{left_length}
@@ -44,18 +44,12 @@ mutual
   named_at_where_stands r (child t) e = named_where_stands r t e
   named_at_where_stands r (listed ds) e = all_named_where_stand r ds e
   named_at_where_stands r (name n) e = some_text r n (slice_get r.tables.texts n) refl e
-  named_at_where_stands r absent e = refl
-  named_at_where_stands r (flag b) e = refl
-  named_at_where_stands r (index n) e = refl
-  named_at_where_stands r (whole n) e = refl
-  named_at_where_stands r no_name e = refl
-  named_at_where_stands r (choice n) e = refl
-  named_at_where_stands r (window from to) e = refl
+  named_at_where_stands r _ e = refl
 
   all_named_where_stand : (r : Range) (ds : Data) → all_stand r ds ≡ true → all_named (held r) ds ≡ true
   all_named_where_stand r none e = refl
   all_named_where_stand r (more d ds) e =
-      and_true (named_at (held r) d) (all_named (held r) ds) (named_at_where_stands r d (and_first (stands_at r d) (all_stand r ds) e)) (all_named_where_stand r ds (and_second (stands_at r d) (all_stand r ds) e))
+      both (named_at (held r) d) (all_named (held r) ds) (named_at_where_stands r d (and_first (stands_at r d) (all_stand r ds) e)) (all_named_where_stand r ds (and_second (stands_at r d) (all_stand r ds) e))
 
 -- ---- no kind is lazy, where there are no contents but windows and no windows
 
@@ -65,7 +59,7 @@ neither false b p q = q
 
 mutual
   pub eager_tree : (t : Tree) → typed t ≡ true → folded t ≡ true → is_whole t ≡ true → is_eager t ≡ true
-  eager_tree (branch k ds) ok shut none_left = let both = eager_fields ds (fields k) ok shut none_left in and_true (not (has_lazy k)) (are_eager ds) both.0 both.1
+  eager_tree (branch k ds) ok shut none_left = let parts = eager_fields ds (fields k) ok shut none_left in both (not (has_lazy k)) (are_eager ds) parts.0 parts.1
 
   eager_at : (d : Datum) (t : FieldType) → fits t d ≡ true → is_folded t d ≡ true → folded_at d ≡ true → is_whole_at d ≡ true → (not (is_lazy_type t) ≡ true) × (is_eager_at d ≡ true)
   eager_at (child c) (field.Node u) ok plain shut none_left = (refl, eager_tree c (and_second (allowed u (kind_of c)) (typed c) ok) shut none_left)
@@ -74,15 +68,10 @@ mutual
   eager_at (window from to) (field.Lazy u) ok plain shut none_left = absurd cc
   eager_at absent (field.Optional u) ok plain shut none_left = (refl, refl)
   eager_at (listed ds) (field.List u holes filled) ok plain shut none_left = (refl, eager_items ds u holes (and_second (not filled || not (is_none ds)) (items_fit u holes ds) ok) shut none_left)
-  eager_at (flag b) field.Bool ok plain shut none_left = (refl, refl)
-  eager_at (index n) field.Index ok plain shut none_left = (refl, refl)
-  eager_at (whole n) field.Whole ok plain shut none_left = (refl, refl)
-  eager_at (name n) field.Text ok plain shut none_left = (refl, refl)
-  eager_at (name n) field.Name ok plain shut none_left = (refl, refl)
-  eager_at (name n) field.Label ok plain shut none_left = (refl, refl)
-  eager_at no_name field.Label ok plain shut none_left = (refl, refl)
-  eager_at (choice n) (field.Choice set) ok plain shut none_left = (refl, refl)
-  eager_at _ _ ok plain shut none_left = absurd cc
+  eager_at (listed ds) _ ok plain shut none_left = absurd cc
+  eager_at _ (field.Lazy u) ok plain shut none_left = absurd cc
+  eager_at (child c) _ ok plain shut none_left = absurd cc
+  eager_at _ _ ok plain shut none_left = (refl, refl)
 
   eager_fields : (ds : Data) (ts : List FieldType) → fit ts ds ≡ true → folded_fields ts ds ≡ true → is_whole_in ds ≡ true → (not (list_any is_lazy_type ts) ≡ true) × (are_eager ds ≡ true)
   eager_fields none [] ok shut none_left = (refl, refl)
@@ -92,38 +81,19 @@ mutual
       let others = and_second (is_folded t d) (folded_at d && folded_fields ts ds) shut in
       let first = eager_at d t (and_first (fits t d) (fit ts ds) ok) (and_first (is_folded t d) (folded_at d && folded_fields ts ds) shut) (and_first (folded_at d) (folded_fields ts ds) others) (and_first (is_whole_at d) (is_whole_in ds) none_left) in
       let rest = eager_fields ds ts (and_second (fits t d) (fit ts ds) ok) (and_second (folded_at d) (folded_fields ts ds) others) (and_second (is_whole_at d) (is_whole_in ds) none_left) in
-      (neither (is_lazy_type t) (list_any is_lazy_type ts) first.0 rest.0, and_true (is_eager_at d) (are_eager ds) first.1 rest.1)
+      (neither (is_lazy_type t) (list_any is_lazy_type ts) first.0 rest.0, both (is_eager_at d) (are_eager ds) first.1 rest.1)
 
   eager_items : (ds : Data) (u : Union) (holes : Bool) → items_fit u holes ds ≡ true → folded_items ds ≡ true → is_whole_in ds ≡ true → are_eager ds ≡ true
   eager_items none u holes ok shut none_left = refl
   eager_items (more d ds) u holes ok shut none_left =
-      and_true (is_eager_at d) (are_eager ds)
+      both (is_eager_at d) (are_eager ds)
       (eager_at d (item_type u holes) (and_first (fits (item_type u holes) d) (items_fit u holes ds) ok) (plain_item u holes d) (and_first (folded_at d) (folded_items ds) shut) (and_first (is_whole_at d) (is_whole_in ds) none_left)).1
       (eager_items ds u holes (and_second (fits (item_type u holes) d) (items_fit u holes ds) ok) (and_second (folded_at d) (folded_items ds) shut) (and_second (is_whole_at d) (is_whole_in ds) none_left))
 
 -- ---- so a whole script that is read is one of the grammar of files
 
-mutual
-  unnested_tree : (t : Tree) → is_eager t ≡ true → is_unnested t ≡ true
-  unnested_tree (branch k ds) e = unnested_fields (fields k) ds (and_second (not (has_lazy k)) (are_eager ds) e)
-
-  unnested_at : (t : FieldType) (d : Datum) → is_eager_at d ≡ true → is_unnested_at t d ≡ true
-  unnested_at (field.Lazy u) d e = e
-  unnested_at t (child c) e = unnested_tree c e
-  unnested_at t (listed ds) e = unnested_items ds e
-  unnested_at t _ e = refl
-
-  unnested_fields : (ts : List FieldType) (ds : Data) → are_eager ds ≡ true → are_unnested_fields ts ds ≡ true
-  unnested_fields [] ds e = refl
-  unnested_fields (t ∷ ts) none e = refl
-  unnested_fields (t ∷ ts) (more d ds) e = and_true (is_unnested_at t d) (are_unnested_fields ts ds) (unnested_at t d (and_first (is_eager_at d) (are_eager ds) e)) (unnested_fields ts ds (and_second (is_eager_at d) (are_eager ds) e))
-
-  unnested_items : (ds : Data) → are_eager ds ≡ true → are_unnested ds ≡ true
-  unnested_items none e = refl
-  unnested_items (more d ds) e = and_true (is_unnested_at (field.Optional Body) d) (are_unnested ds) (unnested_at (field.Optional Body) d (and_first (is_eager_at d) (are_eager ds) e)) (unnested_items ds (and_second (is_eager_at d) (are_eager ds) e))
-
 pub unnested_script : (r : Range) (at : ℕ) (t : Tree) → IsScript r at t → is_whole t ≡ true → is_unnested t ≡ true
-unnested_script r at t read none_left = unnested_tree t (eager_tree t read.typed read.folded none_left)
+unnested_script r at t read none_left = eager_is_unnested t (eager_tree t read.typed read.folded none_left)
 
 -- ---- a script that is read is the one that is spelled there
 
