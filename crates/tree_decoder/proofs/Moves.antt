@@ -15,7 +15,7 @@ use Rattle.bast_schema.specs.Unions.{allowed}
 use Rattle.tree_decoder.specs.Dues.{Taken, taken, dues, times, children, atom_of}
 use Rattle.tree_decoder.specs.Found.{Spent}
 use Rattle.container.specs.Answers.{fault, ◌>>=◌}
-use Rattle.tree_decoder.specs.Numbers.{number_from, judged, kind_of_number, kind_at, count_at, whole_with, whole_or, whole_at, flag_of, flag_at, numbered, leaf_at}
+use Rattle.tree_decoder.specs.Numbers.{number_from, judged, kind_of_number, kind_at, count_at, whole_with, whole_or, whole_at, flag_of, flag_at, numbered, leaf_at, is_leaf}
 use Rattle.tree_decoder.specs.Range.{Range, IsSound}
 use Rattle.tree_decoder.specs.Windows.{windows_at, skipped}
 use Rattle.tree_decoder.proofs.Spells.{bind_ok, guard_ok, chosen_ok, is_ok, ok_is, number_spells}
@@ -102,20 +102,24 @@ count_moves r filled at x sound order e =
     let is : b.0 ≡ x = ok_is _ _ (guard_ok (filled && eqb b.0.0 0) (fault at EmptyList) (Ok b.0) x b.2).1 in
     subst (λ (n : ℕ × ℕ). Moves r at n.1 []) is (number_moves r at b.0 sound order b.1)
 
-leaf_atom : (r : Range) (t : FieldType) (at : ℕ) (y : Taken) → IsSound r → at ≤ r.end → (leaf_at r t at >>= λ v. is_ok (taken [] (windows_at v.0) v.1)) ≡ Ok y → Moves r at y.next y.windows
-leaf_atom r t at y sound order e =
-    let b = bind_ok (leaf_at r t at) (λ v. is_ok (taken [] (windows_at v.0) v.1)) y e in
-    subst (λ (z : Taken). Moves r at z.next z.windows) (ok_is _ _ b.2) (leaf_moves r t at b.0 sound order b.1)
-
-kind_atom : (r : Range) (u : Union) (optional : Bool) (d : ℕ) (w : Bool) (at : ℕ) (y : Taken) → IsSound r → at ≤ r.end → (kind_at r u optional d w at >>= λ k. is_ok (taken (children k.0 d w) [] k.1)) ≡ Ok y → Moves r at y.next y.windows
-kind_atom r u optional d w at y sound order e =
-    let b = bind_ok (kind_at r u optional d w at) (λ k. is_ok (taken (children k.0 d w) [] k.1)) y e in
-    subst (λ (z : Taken). Moves r at z.next z.windows) (ok_is _ _ b.2) (kind_moves r u optional d w at b.0 sound order b.1)
+-- what is read of an atom is a kind, a count, or a value with no parts
+pub atom_cases : (r : Range) (d : ℕ) (w : Bool) (at : ℕ) (P : FieldType → Taken → Type 0)
+    → ((u : Union) (optional : Bool) (k : Option Kind) (m : ℕ) → kind_at r u optional d w at ≡ Ok (k, m) → P (item_type u optional) (taken (children k d w) [] m))
+    → ((u : Union) (holes filled : Bool) (n m : ℕ) → count_at r filled at ≡ Ok (n, m) → P (field.List u holes filled) (taken (dues (times n (item_type u holes)) d w) [] m))
+    → ((t : FieldType) (v : Datum) (m : ℕ) → is_leaf t ≡ true → leaf_at r t at ≡ Ok (v, m) → P t (taken [] (windows_at v) m))
+    → (t : FieldType) (y : Taken) → atom_of r t d w at ≡ Ok y → P t y
+atom_cases r d w at P nodes lists leaves (field.Node u) y e =
+    let b = bind_ok (kind_at r u false d w at) (λ k. is_ok (taken (children k.0 d w) [] k.1)) y e in subst (λ (z : Taken). P (field.Node u) z) (ok_is _ _ b.2) (nodes u false b.0.0 b.0.1 b.1)
+atom_cases r d w at P nodes lists leaves (field.Optional u) y e =
+    let b = bind_ok (kind_at r u true d w at) (λ k. is_ok (taken (children k.0 d w) [] k.1)) y e in subst (λ (z : Taken). P (field.Optional u) z) (ok_is _ _ b.2) (nodes u true b.0.0 b.0.1 b.1)
+atom_cases r d w at P nodes lists leaves (field.List u holes filled) y e =
+    let b = bind_ok (count_at r filled at) (λ n. is_ok (taken (dues (times n.0 (item_type u holes)) d w) [] n.1)) y e in
+    subst (λ (z : Taken). P (field.List u holes filled) z) (ok_is _ _ b.2) (lists u holes filled b.0.0 b.0.1 b.1)
+atom_cases r d w at P nodes lists leaves t y e =
+    let b = bind_ok (leaf_at r t at) (λ v. is_ok (taken [] (windows_at v.0) v.1)) y e in subst (λ (z : Taken). P t z) (ok_is _ _ b.2) (leaves t b.0.0 b.0.1 refl b.1)
 
 pub atom_moves : (r : Range) (t : FieldType) (d : ℕ) (w : Bool) (at : ℕ) (y : Taken) → IsSound r → at ≤ r.end → atom_of r t d w at ≡ Ok y → Moves r at y.next y.windows
-atom_moves r (field.Node u) d w at y sound order e = kind_atom r u false d w at y sound order e
-atom_moves r (field.Optional u) d w at y sound order e = kind_atom r u true d w at y sound order e
-atom_moves r (field.List u holes filled) d w at y sound order e =
-    let b = bind_ok (count_at r filled at) (λ n. is_ok (taken (dues (times n.0 (item_type u holes)) d w) [] n.1)) y e in
-    subst (λ (z : Taken). Moves r at z.next z.windows) (ok_is _ _ b.2) (count_moves r filled at b.0 sound order b.1)
-atom_moves r t d w at y sound order e = leaf_atom r t at y sound order e
+atom_moves r t d w at y sound order e =
+    atom_cases r d w at (λ u z. Moves r at z.next z.windows)
+    (λ u optional k m is. kind_moves r u optional d w at (k, m) sound order is) (λ u holes filled n m is. count_moves r filled at (n, m) sound order is)
+    (λ u v m leaf is. leaf_moves r u at (v, m) sound order is) t y e

@@ -1,5 +1,5 @@
 -- The machine takes the longest row of atoms, and answers the cause for the first due behind it.
-use Rattle.std.proofs.Common.{ℕ, zero, suc, ◌+◌, ◌-◌, ◌<◌, ◌≤◌, ◌≡◌, Bool, true, false, ◌&&◌, get_or, List, [], ◌∷◌, ◌++◌, Option, Some, None, Result, Ok, Err, refl, sym, ap, subst, ◌∙◌, arith, append-nil}
+use Rattle.std.proofs.Common.{ℕ, zero, suc, ◌+◌, ◌-◌, ◌<◌, ◌≤◌, ◌≡◌, Bool, true, false, ◌&&◌, get_or, List, [], ◌∷◌, ◌++◌, Option, Some, None, Result, Ok, Err, refl, sym, ap, ◌∙◌, arith, append-nil}
 use Rattle.bast_base.specs.declared.errors.FormatFault.{FormatFault}
 use Rattle.bast_schema.specs.declared.kind.FieldType.{FieldType}
 use Rattle.bast_schema.specs.declared.kind.FieldType.TheVariants as field
@@ -13,7 +13,6 @@ use Rattle.bast_schema.specs.Kinds.{same_kind}
 use Rattle.bast_schema.specs.Tree.{Datum, flag, index, whole, name, no_name, choice, window, fits, item_type}
 use Rattle.bast_schema.specs.Unions.{allowed}
 use Rattle.bast_schema.proofs.Both.{and_first, and_second}
-use Rattle.container.specs.Answers.{◌>>=◌}
 use Rattle.container.specs.Atoms as atom
 use Rattle.container.specs.Atoms.{Atom, atoms_of}
 use Rattle.bast_schema.specs.Eager.{is_eager_at}
@@ -29,10 +28,9 @@ use Rattle.container.specs.SpelledAtom.{spelled_atom}
 use Rattle.tree_decoder.specs.Row.{Longest, here, and_then}
 use Rattle.tree_decoder.specs.Windows.{windows_at}
 use Rattle.tree_decoder.proofs.Dues.{left_at, puts_plain, puts_null}
-use Rattle.tree_decoder.proofs.Moves.{atom_moves}
+use Rattle.tree_decoder.proofs.Moves.{atom_cases, atom_moves}
 use Rattle.tree_decoder.proofs.Nodes.{absent_stands, count_stands, kind_stands}
 use Rattle.tree_decoder.proofs.Single.{leaf_stands}
-use Rattle.tree_decoder.proofs.Spells.{bind_ok, is_ok, ok_is}
 use Rattle.tree_decoder.proofs.Whole.{named_at_where_stands}
 
 -- ---- one atom
@@ -59,20 +57,10 @@ node_step r u optional d w at None m sound order e =
     let none-stands = absent_stands r u optional d w at m sound order e in
     record { atom = atom.kind Null; spelled = none-stands.0; puts = absent_puts u optional d w none-stands.1 }
 
-node_taken : (r : Range) (u : Union) (optional : Bool) (d : ℕ) (w : Bool) (at : ℕ) (y : Taken) → IsSound r → at ≤ r.end → (kind_at r u optional d w at >>= λ k. is_ok (taken (children k.0 d w) [] k.1)) ≡ Ok y → Step r (item_type u optional) d w at y
-node_taken r u optional d w at y sound order e =
-    let b = bind_ok (kind_at r u optional d w at) (λ k. is_ok (taken (children k.0 d w) [] k.1)) y e in
-    subst (λ (z : Taken). Step r (item_type u optional) d w at z) (ok_is _ _ b.2) (node_step r u optional d w at b.0.0 b.0.1 sound order b.1)
-
 list_step : (r : Range) (u : Union) (holes filled : Bool) (d : ℕ) (w : Bool) (at n m : ℕ) → IsSound r → at ≤ r.end → count_at r filled at ≡ Ok (n, m) → Step r (field.List u holes filled) d w at (taken (dues (times n (item_type u holes)) d w) [] m)
 list_step r u holes filled d w at n m sound order e =
     let n-stands = count_stands r filled at n m sound order e in
     record { atom = atom.count n; spelled = n-stands.spelled; puts = rw n-stands.enough refl }
-
-list_taken : (r : Range) (u : Union) (holes filled : Bool) (d : ℕ) (w : Bool) (at : ℕ) (y : Taken) → IsSound r → at ≤ r.end → (count_at r filled at >>= λ n. is_ok (taken (dues (times n.0 (item_type u holes)) d w) [] n.1)) ≡ Ok y → Step r (field.List u holes filled) d w at y
-list_taken r u holes filled d w at y sound order e =
-    let b = bind_ok (count_at r filled at) (λ n. is_ok (taken (dues (times n.0 (item_type u holes)) d w) [] n.1)) y e in
-    subst (λ (z : Taken). Step r (field.List u holes filled) d w at z) (ok_is _ _ b.2) (list_step r u holes filled d w at b.0.0 b.0.1 sound order b.1)
 
 nothing_put : (o : Option (List Due)) → then_left (λ es. dues_left es []) [] o ≡ Some [] → o ≡ Some []
 nothing_put None e = absurd cc
@@ -109,16 +97,11 @@ leaf_step r t d w at x sound order leaf e =
       puts = nothing_put (puts t d w a.atom) (sym (ap (λ (xs : List Atom). dues_left (due t d w ∷ []) (xs ++ [])) a.is) ∙ gone);
     }
 
-leaf_taken : (r : Range) (t : FieldType) (d : ℕ) (w : Bool) (at : ℕ) (y : Taken) → IsSound r → at ≤ r.end → is_leaf t ≡ true → (leaf_at r t at >>= λ v. is_ok (taken [] (windows_at v.0) v.1)) ≡ Ok y → Step r t d w at y
-leaf_taken r t d w at y sound order leaf e =
-    let b = bind_ok (leaf_at r t at) (λ v. is_ok (taken [] (windows_at v.0) v.1)) y e in
-    subst (λ (z : Taken). Step r t d w at z) (ok_is _ _ b.2) (leaf_step r t d w at b.0 sound order leaf b.1)
-
 atom_step : (r : Range) (t : FieldType) (d : ℕ) (w : Bool) (at : ℕ) (y : Taken) → IsSound r → at ≤ r.end → atom_of r t d w at ≡ Ok y → Step r t d w at y
-atom_step r (field.Node u) d w at y sound order e = node_taken r u false d w at y sound order e
-atom_step r (field.Optional u) d w at y sound order e = node_taken r u true d w at y sound order e
-atom_step r (field.List u holes filled) d w at y sound order e = list_taken r u holes filled d w at y sound order e
-atom_step r t d w at y sound order e = leaf_taken r t d w at y sound order refl e
+atom_step r t d w at y sound order e =
+    atom_cases r d w at (λ u z. Step r u d w at z)
+    (λ u optional k m is. node_step r u optional d w at k m sound order is) (λ u holes filled n m is. list_step r u holes filled d w at n m sound order is)
+    (λ u v m leaf is. leaf_step r u d w at (v, m) sound order leaf is) t y e
 
 -- ---- the row
 

@@ -177,20 +177,19 @@ run_stops r front back d w a b vs old new sound run s = λ ds.
 pub take_split : (ts : List FieldType) (i : ℕ) (t : FieldType) → i < length ts → take i ts ++ get_or ts i t ∷ drop (i + 1) ts ≡ ts
 take_split ts i t lt = ap (λ back. take i ts ++ back) (sym (rw add-one (drop-cons ts i t lt))) ∙ take-append-drop i ts
 
-pub fields_fail_at : (r : Range) (ts : List FieldType) (i : ℕ) (t : FieldType) (d : ℕ) (w : Bool) (a b : ℕ) (vs : Data) (e : Halt) → i < length ts → Run r (take i ts) d w a vs b → Fails r (due (get_or ts i t) d w ∷ []) b e → Fails r (dues ts d w) a e
-fields_fail_at r ts i t d w a b vs e lt run f = subst (λ (us : List FieldType). Fails r (dues us d w) a e) (take_split ts i t lt) (run_fails r (take i ts) (get_or ts i t) (drop (i + 1) ts) d w a b vs e run f)
+pub fails_at : (r : Range) (ts front : List FieldType) (t : FieldType) (back : List FieldType) (d : ℕ) (w : Bool) (a b : ℕ) (vs : Data) (e : Halt) → front ++ t ∷ back ≡ ts → Run r front d w a vs b → Fails r (due t d w ∷ []) b e → Fails r (dues ts d w) a e
+fails_at r ts front t back d w a b vs e split run f = subst (λ (us : List FieldType). Fails r (dues us d w) a e) split (run_fails r front t back d w a b vs e run f)
 
-pub fields_spend_at : (r : Range) (ts : List FieldType) (i : ℕ) (t : FieldType) (d : ℕ) (w : Bool) (a b : ℕ) (vs : Data) (old mid new : ℕ) → i < length ts → Run r (take i ts) d w a vs b → Spent (windows_in vs) a b old mid → SpentFails r (due (get_or ts i t) d w ∷ []) b mid new → SpentFails r (dues ts d w) a old new
-fields_spend_at r ts i t d w a b vs old mid new lt run s f = subst (λ (us : List FieldType). SpentFails r (dues us d w) a old new) (take_split ts i t lt) (run_spends r (take i ts) (get_or ts i t) (drop (i + 1) ts) d w a b vs old mid new run s f)
+pub spends_at : (r : Range) (ts front : List FieldType) (t : FieldType) (back : List FieldType) (d : ℕ) (w : Bool) (a b : ℕ) (vs : Data) (old mid new : ℕ) → front ++ t ∷ back ≡ ts → Run r front d w a vs b → Spent (windows_in vs) a b old mid → SpentFails r (due t d w ∷ []) b mid new → SpentFails r (dues ts d w) a old new
+spends_at r ts front t back d w a b vs old mid new split run s f = subst (λ (us : List FieldType). SpentFails r (dues us d w) a old new) split (run_spends r front t back d w a b vs old mid new run s f)
 
-pub fields_stop_at : (r : Range) (ts : List FieldType) (i : ℕ) (t : FieldType) (d : ℕ) (w : Bool) (a b c : ℕ) (vs : List Value) (v : Value) (old mid new : ℕ) → IsSound r → i < length ts → Run r (take i ts) d w a (data_of vs) b → Spent (windows_in (data_of vs)) a b old mid → Found r (get_or ts i t) d w b (datum v) c → Spent (windows_at (datum v)) b c mid new → SpentFails r (dues ts d w) a old new
-fields_stop_at r ts i t d w a b c vs v old mid new sound lt run s f g =
+pub stops_at : (r : Range) (ts front : List FieldType) (t : FieldType) (back : List FieldType) (d : ℕ) (w : Bool) (a b c : ℕ) (vs : List Value) (v : Value) (old mid new : ℕ) → IsSound r → front ++ t ∷ back ≡ ts → Run r front d w a (data_of vs) b → Spent (windows_in (data_of vs)) a b old mid → Found r t d w b (datum v) c → Spent (windows_at (datum v)) b c mid new → SpentFails r (dues ts d w) a old new
+stops_at r ts front t back d w a b c vs v old mid new sound split run s f g =
     let ahead = f.forward in
     let on = run.forward in
-    let both = run_more r (take i ts) (get_or ts i t) d w a b c vs v run f in
+    let both_run = run_more r front t d w a b c vs v run f in
     let spent = spent_more vs v a b c old mid new on (omega arith) s g in
-    let split : (take i ts ++ get_or ts i t ∷ []) ++ drop (i + 1) ts ≡ ts = append_assoc (take i ts) (get_or ts i t ∷ []) (drop (i + 1) ts) ∙ take_split ts i t lt in
-    subst (λ (us : List FieldType). SpentFails r (dues us d w) a old new) split (run_stops r (take i ts ++ get_or ts i t ∷ []) (drop (i + 1) ts) d w a c (data_of (vs ++ v ∷ [])) old new sound both spent)
+    subst (λ (us : List FieldType). SpentFails r (dues us d w) a old new) (append_assoc front (t ∷ []) back ∙ split) (run_stops r (front ++ t ∷ []) back d w a c (data_of (vs ++ v ∷ [])) old new sound both_run spent)
 
 -- ---- a type a number of times
 
@@ -207,18 +206,3 @@ times_split (suc n) m t = ap (λ k. times k t) (suc_plus n (suc m)) ∙ ap (λ t
 
 pub times_at : (n i : ℕ) (t : FieldType) → i < n → times i t ++ t ∷ times (n - suc i) t ≡ times n t
 times_at n i t lt = let m : i + suc (n - suc i) ≡ n = omega arith in sym (times_split i (n - suc i) t) ∙ ap (λ k. times k t) m
-
-pub items_fail_at : (r : Range) (n i : ℕ) (t : FieldType) (d : ℕ) (w : Bool) (a b : ℕ) (vs : Data) (e : Halt) → i < n → Run r (times i t) d w a vs b → Fails r (due t d w ∷ []) b e → Fails r (dues (times n t) d w) a e
-items_fail_at r n i t d w a b vs e lt run f = subst (λ (us : List FieldType). Fails r (dues us d w) a e) (times_at n i t lt) (run_fails r (times i t) t (times (n - suc i) t) d w a b vs e run f)
-
-pub items_spend_at : (r : Range) (n i : ℕ) (t : FieldType) (d : ℕ) (w : Bool) (a b : ℕ) (vs : Data) (old mid new : ℕ) → i < n → Run r (times i t) d w a vs b → Spent (windows_in vs) a b old mid → SpentFails r (due t d w ∷ []) b mid new → SpentFails r (dues (times n t) d w) a old new
-items_spend_at r n i t d w a b vs old mid new lt run s f = subst (λ (us : List FieldType). SpentFails r (dues us d w) a old new) (times_at n i t lt) (run_spends r (times i t) t (times (n - suc i) t) d w a b vs old mid new run s f)
-
-pub items_stop_at : (r : Range) (n i : ℕ) (t : FieldType) (d : ℕ) (w : Bool) (a b c : ℕ) (vs : List Value) (v : Value) (old mid new : ℕ) → IsSound r → i < n → Run r (times i t) d w a (data_of vs) b → Spent (windows_in (data_of vs)) a b old mid → Found r t d w b (datum v) c → Spent (windows_at (datum v)) b c mid new → SpentFails r (dues (times n t) d w) a old new
-items_stop_at r n i t d w a b c vs v old mid new sound lt run s f g =
-    let ahead = f.forward in
-    let on = run.forward in
-    let both = run_more r (times i t) t d w a b c vs v run f in
-    let spent = spent_more vs v a b c old mid new on (omega arith) s g in
-    let split : (times i t ++ t ∷ []) ++ times (n - suc i) t ≡ times n t = append_assoc (times i t) (t ∷ []) (times (n - suc i) t) ∙ times_at n i t lt in
-    subst (λ (us : List FieldType). SpentFails r (dues us d w) a old new) split (run_stops r (times i t ++ t ∷ []) (times (n - suc i) t) d w a c (data_of (vs ++ v ∷ [])) old new sound both spent)

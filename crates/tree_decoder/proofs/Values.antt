@@ -1,5 +1,5 @@
 -- Where no fault is found, there is a value for each due.
-use Rattle.std.proofs.Common.{ℕ, zero, suc, ◌+◌, ◌-◌, ◌<◌, ◌≤◌, ◌≡◌, Bool, true, false, ◌&&◌, cond, ltb, List, [], ◌∷◌, ◌++◌, Option, Some, None, Result, Ok, Err, refl, sym, subst, arith}
+use Rattle.std.proofs.Common.{ℕ, zero, suc, ◌+◌, ◌-◌, ◌<◌, ◌≤◌, ◌≡◌, Bool, true, false, ◌&&◌, cond, ltb, List, [], ◌∷◌, ◌++◌, Option, Some, None, Result, Ok, Err, refl, arith}
 use Rattle.std.proofs.lemmas.Bool.{ltb-false}
 use Rattle.bast_base.specs.declared.errors.FormatFault.{FormatFault}
 use Rattle.bast_base.specs.declared.errors.Why.TheVariants.{Trailing}
@@ -10,20 +10,18 @@ use Rattle.bast_schema.specs.declared.kind.Union.{Union}
 use Rattle.bast_schema.specs.Fields.{fields}
 use Rattle.bast_schema.specs.Kinds.{counted}
 use Rattle.bast_schema.specs.Tree.{Tree, branch, Datum, child, absent, listed, Data, none, more, item_type}
-use Rattle.container.specs.Answers.{fault, ◌>>=◌}
-use Rattle.tree_decoder.specs.Dues.{Due, due, dues, times, below, children, Taken, taken, atom_of, atom_at}
+use Rattle.container.specs.Answers.{fault}
+use Rattle.tree_decoder.specs.Dues.{Due, due, dues, times, below, children, Taken, atom_of, atom_at}
 use Rattle.tree_decoder.specs.Found.{Found, Run}
 use Rattle.tree_decoder.specs.Numbers.{kind_at, count_at, leaf_at, is_leaf}
 use Rattle.tree_decoder.specs.Outcome.{ends, after, go, outcome_from}
 use Rattle.tree_decoder.specs.Range.{Range, IsSound}
 use Rattle.tree_decoder.specs.Script.{IsScript, script, script_outcome}
-use Rattle.tree_decoder.specs.Windows.{windows_at}
-use Rattle.tree_decoder.proofs.Moves.{kind_moves, count_moves}
+use Rattle.tree_decoder.proofs.Moves.{atom_cases, kind_moves, count_moves}
 use Rattle.tree_decoder.proofs.Nodes.{kind_stands, node_found, absent_found, list_found}
 use Rattle.tree_decoder.proofs.Runs.{run_none, run_cons}
 use Rattle.tree_decoder.proofs.Scripts.{script_stands}
 use Rattle.tree_decoder.proofs.Single.{leaf_found}
-use Rattle.tree_decoder.proofs.Spells.{bind_ok, is_ok, ok_is}
 
 -- a value for each due, one after another, and nothing after them
 abbrev Each : Range → List Due → ℕ → Type 0
@@ -92,11 +90,6 @@ node_value r n u optional d w ds at None m here e clear =
 abbrev NoneAfter : Range → ℕ → List Due → Taken → Type 0
 NoneAfter r n ds y = (go r n (y.puts ++ ds) y.next).fault ≡ None
 
-by_kind : (r : Range) (n : ℕ) (u : Union) (optional : Bool) (d : ℕ) (w : Bool) (ds : List Due) (at : ℕ) (y : Taken) → Here r n d ds at → (kind_at r u optional d w at >>= λ k. is_ok (taken (children k.0 d w) [] k.1)) ≡ Ok y → NoneAfter r n ds y → Each r (due (item_type u optional) d w ∷ ds) at
-by_kind r n u optional d w ds at y here e clear =
-    let b = bind_ok (kind_at r u optional d w at) (λ k. is_ok (taken (children k.0 d w) [] k.1)) y e in
-    node_value r n u optional d w ds at b.0.0 b.0.1 here b.1 (subst (NoneAfter r n ds) (sym (ok_is _ _ b.2)) clear)
-
 list_value : (r : Range) (n : ℕ) (u : Union) (holes filled : Bool) (d : ℕ) (w : Bool) (ds : List Due) (at i m : ℕ) → Here r n d ds at → count_at r filled at ≡ Ok (i, m) → (go r n (dues (times i (item_type u holes)) d w ++ ds) m).fault ≡ None → Each r (due (field.List u holes filled) d w ∷ ds) at
 list_value r n u holes filled d w ds at i m here e clear =
     let moves = count_moves r filled at (i, m) here.sound here.order e in
@@ -106,24 +99,18 @@ list_value r n u holes filled d w ds at i m here e clear =
     let parts = split r (times i (item_type u holes)) d w ds m here.small moves.within each in
     (listed parts.values, parts.next, list_found r u holes filled d w at i m parts.values parts.next here.sound here.order e parts.run, parts.rest)
 
-by_count : (r : Range) (n : ℕ) (u : Union) (holes filled : Bool) (d : ℕ) (w : Bool) (ds : List Due) (at : ℕ) (y : Taken) → Here r n d ds at → (count_at r filled at >>= λ i. is_ok (taken (dues (times i.0 (item_type u holes)) d w) [] i.1)) ≡ Ok y → NoneAfter r n ds y → Each r (due (field.List u holes filled) d w ∷ ds) at
-by_count r n u holes filled d w ds at y here e clear =
-    let b = bind_ok (count_at r filled at) (λ i. is_ok (taken (dues (times i.0 (item_type u holes)) d w) [] i.1)) y e in
-    list_value r n u holes filled d w ds at b.0.0 b.0.1 here b.1 (subst (NoneAfter r n ds) (sym (ok_is _ _ b.2)) clear)
-
-by_leaf : (r : Range) (n : ℕ) (t : FieldType) (d : ℕ) (w : Bool) (ds : List Due) (at : ℕ) (y : Taken) → Here r n d ds at → is_leaf t ≡ true → (leaf_at r t at >>= λ v. is_ok (taken [] (windows_at v.0) v.1)) ≡ Ok y → NoneAfter r n ds y → Each r (due t d w ∷ ds) at
-by_leaf r n t d w ds at y here leaf e clear =
-    let b = bind_ok (leaf_at r t at) (λ v. is_ok (taken [] (windows_at v.0) v.1)) y e in
-    let found = leaf_found r t d w at b.0 here.sound here.order here.small leaf b.1 in
-    let on : at < b.0.1 = found.forward in
+leaf_value : (r : Range) (n : ℕ) (t : FieldType) (d : ℕ) (w : Bool) (ds : List Due) (at : ℕ) (v : Datum) (m : ℕ) → Here r n d ds at → is_leaf t ≡ true → leaf_at r t at ≡ Ok (v, m) → (go r n ds m).fault ≡ None → Each r (due t d w ∷ ds) at
+leaf_value r n t d w ds at v m here leaf e clear =
+    let found = leaf_found r t d w at (v, m) here.sound here.order here.small leaf e in
+    let on : at < m = found.forward in
     let enough = here.enough in
-    (b.0.0, b.0.1, found, here.ahead ds b.0.1 found.within (omega arith) here.shallow (subst (NoneAfter r n ds) (sym (ok_is _ _ b.2)) clear))
+    (v, m, found, here.ahead ds m found.within (omega arith) here.shallow clear)
 
 by_type : (r : Range) (n : ℕ) (t : FieldType) (d : ℕ) (w : Bool) (ds : List Due) (at : ℕ) (y : Taken) → Here r n d ds at → atom_of r t d w at ≡ Ok y → NoneAfter r n ds y → Each r (due t d w ∷ ds) at
-by_type r n (field.Node u) d w ds at y here e clear = by_kind r n u false d w ds at y here e clear
-by_type r n (field.Optional u) d w ds at y here e clear = by_kind r n u true d w ds at y here e clear
-by_type r n (field.List u holes filled) d w ds at y here e clear = by_count r n u holes filled d w ds at y here e clear
-by_type r n t d w ds at y here e clear = by_leaf r n t d w ds at y here refl e clear
+by_type r n t d w ds at y here e clear =
+    atom_cases r d w at (λ u z. NoneAfter r n ds z → Each r (due u d w ∷ ds) at)
+    (λ u optional k m is none. node_value r n u optional d w ds at k m here is none) (λ u holes filled i m is none. list_value r n u holes filled d w ds at i m here is none)
+    (λ u v m leaf is none. leaf_value r n u d w ds at v m here leaf is none) t y e clear
 
 -- ---- atom after atom
 

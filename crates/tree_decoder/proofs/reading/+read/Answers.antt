@@ -17,7 +17,7 @@ use Rattle.tree_decoder.specs.Range.{range_of}
 use Rattle.tree_decoder.specs.Windows.{windows, windows_in}
 use Rattle.tree_decoder.proofs.Moves.{kind_moves, count_moves}
 use Rattle.tree_decoder.proofs.Nodes.{kind_stands, node_found, absent_found, node_made, kind_fails, kind_spends, fields_fail, fields_spend, spent_node, count_fails, count_spends, items_fail, items_spend, list_found, below_bounds, node_is, no_fault}
-use Rattle.tree_decoder.proofs.Runs.{run_more, spent_more, fields_fail_at, fields_spend_at, fields_stop_at, items_fail_at, items_spend_at, items_stop_at, times_more}
+use Rattle.tree_decoder.proofs.Runs.{fails_at, run_more, spends_at, spent_more, stops_at, take_split, times_at, times_more}
 use Rattle.tree_decoder.proofs.reading.+read.Goals as goal
 
 abbrev stands_as : Option Kind × ℕ → Result (Option Kind × ℕ) FormatFault
@@ -28,19 +28,19 @@ stands_as x = Ok x
 pub fields-returns-in_err-value-clause-reads : goal.fields-returns-in_err-value-clause-reads
 fields-returns-in_err-value-clause-reads g t c =
     let e = err_from_is_err_and c.from_residual.result c.from_residual.ensures.1 in
-    let f = fields_fail_at (range_of c.args.input.now) c.args.wanted.now c.loop-one.one-index (field.Node Body) c.args.depth c.args.inside c.args.at c.loop-one.next (data_of c.loop-one.values.items) c.in_err-value.field-0.0 c.loop-one-test.true c.loop-one.invariant.run c.in_err-value.ensures.reads in
+    let f = fails_at (range_of c.args.input.now) c.args.wanted.now _ _ _ c.args.depth c.args.inside c.args.at c.loop-one.next (data_of c.loop-one.values.items) c.in_err-value.field-0.0 (take_split c.args.wanted.now c.loop-one.one-index (field.Node Body) c.loop-one-test.true) c.loop-one.invariant.run c.in_err-value.ensures.reads in
     rw (e.1, e.2) f
 
 pub fields-returns-in_err-value-clause-spends : goal.fields-returns-in_err-value-clause-spends
 fields-returns-in_err-value-clause-spends g t c =
     let e = err_from_is_err_and c.from_residual.result c.from_residual.ensures.1 in
-    let f = fields_spend_at (range_of c.args.input.now) c.args.wanted.now c.loop-one.one-index (field.Node Body) c.args.depth c.args.inside c.args.at c.loop-one.next (data_of c.loop-one.values.items) c.args.steps.now c.loop-one.steps c.value.new.steps c.loop-one-test.true c.loop-one.invariant.run c.loop-one.invariant.spent c.in_err-value.ensures.spends in
+    let f = spends_at (range_of c.args.input.now) c.args.wanted.now _ _ _ c.args.depth c.args.inside c.args.at c.loop-one.next (data_of c.loop-one.values.items) c.args.steps.now c.loop-one.steps c.value.new.steps (take_split c.args.wanted.now c.loop-one.one-index (field.Node Body) c.loop-one-test.true) c.loop-one.invariant.run c.loop-one.invariant.spent c.in_err-value.ensures.spends in
     rw e.1 f
 
 pub fields-returns-in_err-push-clause-spends : goal.fields-returns-in_err-push-clause-spends
 fields-returns-in_err-push-clause-spends g t c =
     let e = err_from_is_err_and c.from_residual-in_err-push.result c.from_residual-in_err-push.ensures.1 in
-    let f = fields_stop_at (range_of c.args.input.now) c.args.wanted.now c.loop-one.one-index (field.Node Body) c.args.depth c.args.inside c.args.at c.loop-one.next c.in_ok-value.after c.loop-one.values.items c.in_ok-value.value c.args.steps.now c.loop-one.steps c.value.new.steps c.requires.sound c.loop-one-test.true c.loop-one.invariant.run c.loop-one.invariant.spent c.in_ok-value.ensures.reads c.in_ok-value.ensures.spends in
+    let f = stops_at (range_of c.args.input.now) c.args.wanted.now _ _ _ c.args.depth c.args.inside c.args.at c.loop-one.next c.in_ok-value.after c.loop-one.values.items c.in_ok-value.value c.args.steps.now c.loop-one.steps c.value.new.steps c.requires.sound (take_split c.args.wanted.now c.loop-one.one-index (field.Node Body) c.loop-one-test.true) c.loop-one.invariant.run c.loop-one.invariant.spent c.in_ok-value.ensures.reads c.in_ok-value.ensures.spends in
     rw e.1 f
 
 pub fields-loop-one-preserved : goal.fields-loop-one-preserved
@@ -62,19 +62,19 @@ fields-loop-one-preserved g t c =
 pub items-returns-in_err-value-clause-reads : goal.items-returns-in_err-value-clause-reads
 items-returns-in_err-value-clause-reads g t c =
     let e = err_from_is_err_and c.from_residual.result c.from_residual.ensures.1 in
-    let f = items_fail_at (range_of c.args.input.now) c.args.count c.loop.counter (item_type c.args.item c.args.holes) c.args.depth c.args.inside c.args.at c.loop.next (data_of c.loop.values.items) c.in_err-value.field-0.0 c.loop-test.true c.loop.invariant.run c.in_err-value.ensures.reads in
+    let f = fails_at (range_of c.args.input.now) (times c.args.count (item_type c.args.item c.args.holes)) _ _ _ c.args.depth c.args.inside c.args.at c.loop.next (data_of c.loop.values.items) c.in_err-value.field-0.0 (times_at c.args.count c.loop.counter (item_type c.args.item c.args.holes) c.loop-test.true) c.loop.invariant.run c.in_err-value.ensures.reads in
     rw (e.1, e.2) f
 
 pub items-returns-in_err-value-clause-spends : goal.items-returns-in_err-value-clause-spends
 items-returns-in_err-value-clause-spends g t c =
     let e = err_from_is_err_and c.from_residual.result c.from_residual.ensures.1 in
-    let f = items_spend_at (range_of c.args.input.now) c.args.count c.loop.counter (item_type c.args.item c.args.holes) c.args.depth c.args.inside c.args.at c.loop.next (data_of c.loop.values.items) c.args.steps.now c.loop.steps c.node.new.steps c.loop-test.true c.loop.invariant.run c.loop.invariant.spent c.in_err-value.ensures.spends in
+    let f = spends_at (range_of c.args.input.now) (times c.args.count (item_type c.args.item c.args.holes)) _ _ _ c.args.depth c.args.inside c.args.at c.loop.next (data_of c.loop.values.items) c.args.steps.now c.loop.steps c.node.new.steps (times_at c.args.count c.loop.counter (item_type c.args.item c.args.holes) c.loop-test.true) c.loop.invariant.run c.loop.invariant.spent c.in_err-value.ensures.spends in
     rw e.1 f
 
 pub items-returns-in_err-push-clause-spends : goal.items-returns-in_err-push-clause-spends
 items-returns-in_err-push-clause-spends g t c =
     let e = err_from_is_err_and c.from_residual-in_err-push.result c.from_residual-in_err-push.ensures.1 in
-    let f = items_stop_at (range_of c.args.input.now) c.args.count c.loop.counter (item_type c.args.item c.args.holes) c.args.depth c.args.inside c.args.at c.loop.next c.in_ok-value.after c.loop.values.items c.in_ok-value.value c.args.steps.now c.loop.steps c.node.new.steps c.requires.sound c.loop-test.true c.loop.invariant.run c.loop.invariant.spent c.in_ok-value.ensures.reads c.in_ok-value.ensures.spends in
+    let f = stops_at (range_of c.args.input.now) (times c.args.count (item_type c.args.item c.args.holes)) _ _ _ c.args.depth c.args.inside c.args.at c.loop.next c.in_ok-value.after c.loop.values.items c.in_ok-value.value c.args.steps.now c.loop.steps c.node.new.steps c.requires.sound (times_at c.args.count c.loop.counter (item_type c.args.item c.args.holes) c.loop-test.true) c.loop.invariant.run c.loop.invariant.spent c.in_ok-value.ensures.reads c.in_ok-value.ensures.spends in
     rw e.1 f
 
 pub items-loop-preserved : goal.items-loop-preserved
