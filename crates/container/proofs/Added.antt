@@ -118,7 +118,7 @@ texts_stay_distinct old part at new is distinct =
     let e : added old n.entry ≡ old ++ n.entry ∷ [] = ap (λ o. if is_some o then old else old ++ n.entry ∷ []) n.none in
     rw (n.is, ← e) (AreDistinct-added old n.entry distinct)
 
-all_push : {A : Type 0} (P : A → Type 0) (xs : List A) (x : A) → AllByRecursion P xs → P x → AllByRecursion P (xs ++ x ∷ [])
+pub all_push : {A : Type 0} (P : A → Type 0) (xs : List A) (x : A) → AllByRecursion P xs → P x → AllByRecursion P (xs ++ x ∷ [])
 all_push P [] x all p = (p, tt)
 all_push P (y ∷ ys) x all p = (all.0, all_push P ys x all.1 p)
 

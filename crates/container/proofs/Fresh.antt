@@ -23,7 +23,7 @@ get_behind : {A : Type 0} (xs : List A) (y : A) (ys : List A) → slice_get (xs 
 get_behind [] y ys = refl
 get_behind (x ∷ xs) y ys = get_behind xs y ys
 
-from_append : {A : Type 0} (p : A → Bool) (n m : ℕ) (xs ys : List A) → position_from p n xs ≡ Some m → position_from p n (xs ++ ys) ≡ Some m
+pub from_append : {A : Type 0} (p : A → Bool) (n m : ℕ) (xs ys : List A) → position_from p n xs ≡ Some m → position_from p n (xs ++ ys) ≡ Some m
 from_append p n m [] ys is = cc
 from_append p n m (x ∷ xs) ys is = first (p x) is (from_append p (n + 1) m xs ys)
   where

@@ -11,6 +11,7 @@ use Rattle.bast_schema.specs.declared.kind.Kind.{Kind}
 use Rattle.bast_schema.specs.declared.table.Added.TheVariants.{New, There}
 use Rattle.bast_schema.specs.KindTable.{answer_at, joined_at, place_of}
 use Rattle.bast_schema.specs.Kinds.{kind_name, kind_of_name, kinds}
+use Rattle.bast_schema.proofs.Both.{and_first, and_second}
 use Rattle.bast_schema.proofs.Places.{found_passes}
 use Rattle.string_table.specs.Entries.{place_in}
 use Rattle.bast_base.specs.declared.errors.FormatFault.{FormatFault}
@@ -29,23 +30,19 @@ found_all : {A : Type 0} (p q : A → Bool) (xs : List A) (x : A) → list_all q
 found_all p q [] x all is = cc
 found_all p q (y ∷ ys) x all is = found_first p q y ys x (p y) (q y) refl is all (λ e rest. found_all p q ys x rest e)
 
-abbrev is_plain : List ℕ → Bool
+abbrev pub is_plain : List ℕ → Bool
 is_plain bytes = list_all (λ (b : ℕ). nat_lt b 128) bytes
 
 names_are_plain : list_all (λ (k : Kind). is_plain (kind_name k)) kinds ≡ true
 names_are_plain = refl
 
-both_true : (a b : Bool) → (a && b) ≡ true → (a ≡ true) × (b ≡ true)
-both_true true b is = (refl, is)
-both_true false b is = cc
-
 plain_ascii : (bytes : List ℕ) → is_plain bytes ≡ true → (i : ℕ) → slice_index bytes i < 128
 plain_ascii [] plain zero = lit< tt
 plain_ascii [] plain (suc i) = lit< tt
-plain_ascii (x ∷ xs) plain zero = ltb-true x 128 (both_true (nat_lt x 128) (is_plain xs) plain).0
-plain_ascii (x ∷ xs) plain (suc i) = plain_ascii xs (both_true (nat_lt x 128) (is_plain xs) plain).1 i
+plain_ascii (x ∷ xs) plain zero = ltb-true x 128 (and_first (nat_lt x 128) (is_plain xs) plain)
+plain_ascii (x ∷ xs) plain (suc i) = plain_ascii xs (and_second (nat_lt x 128) (is_plain xs) plain) i
 
-plain_text : (bytes : List ℕ) → is_plain bytes ≡ true → IsUtf8 bytes
+pub plain_text : (bytes : List ℕ) → is_plain bytes ≡ true → IsUtf8 bytes
 plain_text bytes plain = IsUtf8-from_ascii bytes (plain_ascii bytes plain)
 
 pub text_of_kind : (name : List ℕ) (k : Kind) → kind_of_name name ≡ Some k → (kind_name k ≡ name) × IsUtf8 name

@@ -1,10 +1,8 @@
 -- The file of a script is in the grammar of files.
-use Rattle.std.proofs.Common.{◌≡◌, ◌≤◌, ℕ, zero, suc, ◌+◌, ◌<◌, ◌^◌, Bool, true, false, cond, ◌||◌, ◌&&◌, List, [], ◌∷◌, ◌++◌, length, lit<, nat_lt, slice_index, get_or, Option, Some, None, refl, sym, subst, ◌∙◌}
+use Rattle.std.proofs.Common.{◌≡◌, ◌≤◌, ℕ, zero, suc, ◌+◌, ◌<◌, ◌^◌, Bool, true, false, cond, ◌||◌, ◌&&◌, List, [], ◌∷◌, ◌++◌, length, get_or, Option, Some, None, refl, sym, subst, ◌∙◌}
 use Rattle.std.specs.List.{AllByRecursion, IsDistinct, list_all, list_any, position_from}
-use Rattle.std.specs.Str.{is_utf8}
-use Rattle.std.proofs.lemmas.Bool.{ltb-true}
 use Rattle.std.proofs.lemmas.Option.{none-some}
-use Rattle.std.proofs.lemmas.Str.{IsUtf8-from_ascii, is_utf8-from_IsUtf8}
+use Rattle.std.proofs.lemmas.Str.{is_utf8-from_IsUtf8}
 use Rattle.bast_schema.specs.declared.kind.EnumId.{EnumId}
 use Rattle.bast_schema.specs.declared.kind.Kind.TheVariants.{Script}
 use Rattle.bast_schema.specs.declared.kind.EnumId.TheVariants.{DeclaredKind, LexicalKind, ForKind, UnaryOperator, UpdateOperator, BinaryOperator, CompoundOperator}
@@ -25,7 +23,9 @@ use Rattle.bast_schema.specs.Eager.{is_eager}
 use Rattle.container.specs.InFile.{InFile, IsEntry, has_atom, is_unnested}
 use Rattle.container.specs.Named.{named}
 use Rattle.container.specs.Tables.{Tables}
+use Rattle.container.proofs.Added.{all_push}
 use Rattle.container.proofs.ByAtoms.{eager_is_unnested}
+use Rattle.container.proofs.Named.{is_plain, plain_text}
 use Rattle.string_table.specs.Entries.{AreDistinct, added, is_same, place_in}
 use Rattle.string_table.proofs.Laws.{AreDistinct-added, added-new, added-there}
 use Rattle.string_table.proofs.Search.{position-from}
@@ -61,15 +61,11 @@ abbrev IsText : Atom → Type 0
 IsText (text entry) = IsEntry entry
 IsText _ = Unit {0}
 
-pub entries_end : (ts : List (Option (List ℕ))) (entry : Option (List ℕ)) → AllByRecursion IsEntry ts → IsEntry entry → AllByRecursion IsEntry (ts ++ entry ∷ [])
-entries_end [] entry all one = (one, tt)
-entries_end (t ∷ ts) entry all one = (all.0, entries_end ts entry all.1 one)
-
 entries_added : (ts : List (Option (List ℕ))) (entry : Option (List ℕ)) → AllByRecursion IsEntry ts → IsEntry entry → AllByRecursion IsEntry (added ts entry)
 entries_added ts entry all one = by (place_in ts entry) refl
   where
     by : (o : Option ℕ) → place_in ts entry ≡ o → AllByRecursion IsEntry (added ts entry)
-    by None e = subst (λ (us : List (Option (List ℕ))). AllByRecursion IsEntry us) (sym (added-new ts entry e).0) (entries_end ts entry all one)
+    by None e = subst (λ (us : List (Option (List ℕ))). AllByRecursion IsEntry us) (sym (added-new ts entry e).0) (all_push IsEntry ts entry all one)
     by (Some n) e = subst (λ (us : List (Option (List ℕ))). AllByRecursion IsEntry us) (sym (added-there ts entry n e).0) all
 
 entries_next : (s : Tables) (a : Atom) → IsText a → AllByRecursion IsEntry s.texts → AllByRecursion IsEntry (with_atom s a).texts
@@ -87,10 +83,7 @@ entry_at (t ∷ ts) zero all = all.0
 entry_at (t ∷ ts) (suc n) all = entry_at ts n all.1
 
 -- and that of a choice, which has no character beyond ASCII
-abbrev is_ascii : List ℕ → Bool
-is_ascii bytes = list_all (λ (b : ℕ). nat_lt b 128) bytes
-
-choices_are_ascii : (e : EnumId) → list_all is_ascii (choice_texts e) ≡ true
+choices_are_ascii : (e : EnumId) → list_all is_plain (choice_texts e) ≡ true
 choices_are_ascii DeclaredKind = refl
 choices_are_ascii LexicalKind = refl
 choices_are_ascii ForKind = refl
@@ -99,22 +92,13 @@ choices_are_ascii UpdateOperator = refl
 choices_are_ascii BinaryOperator = refl
 choices_are_ascii CompoundOperator = refl
 
-ascii_at : (ts : List (List ℕ)) (n : ℕ) → list_all is_ascii ts ≡ true → is_ascii (get_or ts n []) ≡ true
+ascii_at : (ts : List (List ℕ)) (n : ℕ) → list_all is_plain ts ≡ true → is_plain (get_or ts n []) ≡ true
 ascii_at [] n all = refl
-ascii_at (t ∷ ts) zero all = and_first (is_ascii t) (list_all is_ascii ts) all
-ascii_at (t ∷ ts) (suc n) all = ascii_at ts n (and_second (is_ascii t) (list_all is_ascii ts) all)
-
-ascii_byte : (bytes : List ℕ) → is_ascii bytes ≡ true → (i : ℕ) → slice_index bytes i < 128
-ascii_byte [] all zero = lit< tt
-ascii_byte [] all (suc i) = lit< tt
-ascii_byte (x ∷ xs) all zero = ltb-true x 128 (and_first (nat_lt x 128) (is_ascii xs) all)
-ascii_byte (x ∷ xs) all (suc i) = ascii_byte xs (and_second (nat_lt x 128) (is_ascii xs) all) i
-
-ascii_text : (bytes : List ℕ) → is_ascii bytes ≡ true → is_utf8 bytes ≡ true
-ascii_text bytes all = is_utf8-from_IsUtf8 bytes (IsUtf8-from_ascii bytes (ascii_byte bytes all))
+ascii_at (t ∷ ts) zero all = and_first (is_plain t) (list_all is_plain ts) all
+ascii_at (t ∷ ts) (suc n) all = ascii_at ts n (and_second (is_plain t) (list_all is_plain ts) all)
 
 choice_is_text : (f : FieldType) (n : ℕ) → IsEntry (chosen f n)
-choice_is_text (field.Choice e) n = ascii_text (get_or (choice_texts e) n []) (ascii_at (choice_texts e) n (choices_are_ascii e))
+choice_is_text (field.Choice e) n = is_utf8-from_IsUtf8 (get_or (choice_texts e) n []) (plain_text (get_or (choice_texts e) n []) (ascii_at (choice_texts e) n (choices_are_ascii e)))
 choice_is_text _ n = tt
 
 texts_join : (a b : List Atom) → AllByRecursion IsText a → AllByRecursion IsText b → AllByRecursion IsText (a ++ b)

@@ -8,6 +8,7 @@ use Rattle.bast_schema.specs.declared.kind.Kind.{Kind}
 use Rattle.bast_schema.specs.KindTable.{place_of, with_kind, joined_at, added_of, answer_at, number_added}
 use Rattle.bast_schema.specs.Kinds.{same_kind}
 use Rattle.bast_schema.proofs.EachKind.{same_kind_self}
+use Rattle.container.proofs.Fresh.{from_append}
 use Rattle.string_table.specs.Entries.{added, place_in}
 use Rattle.string_table.proofs.Laws.{place_in-append, added-new, added-there}
 use Rattle.var_numbers.specs.Varnum.{varnum}
@@ -17,15 +18,6 @@ use Rattle.tree_encoder.specs.File.{most_bytes}
 use Rattle.tree_encoder.specs.Writing.{AreNumbers, IsSound}
 
 module _ {A : Type 0} (p : A → Bool) where
-  from_append : (n i : ℕ) (xs ys : List A) → position_from p n xs ≡ Some i → position_from p n (xs ++ ys) ≡ Some i
-  from_append n i [] ys is = absurd (none-some i is)
-  from_append n i (x ∷ xs) ys is = by (p x) (from_append (n + 1) i xs ys) is
-    where
-      by : (b : Bool) → (position_from p (n + 1) xs ≡ Some i → position_from p (n + 1) (xs ++ ys) ≡ Some i)
-          → cond b (Some n) (position_from p (n + 1) xs) ≡ Some i → cond b (Some n) (position_from p (n + 1) (xs ++ ys)) ≡ Some i
-      by true rest is = is
-      by false rest is = rest is
-
   from_push : (n : ℕ) (xs : List A) (x : A) → p x ≡ true → position_from p n xs ≡ None → position_from p n (xs ++ x ∷ []) ≡ Some (n + length xs)
   from_push n [] x passes none = let e : n ≡ n + 0 = omega arith in rw passes (ap Some e)
   from_push n (y ∷ xs) x passes none = by (p y) (from_push (n + 1) xs x passes) none
