@@ -33,20 +33,12 @@ decoded bytes texts t (Err (refusal.Format f)) is judged = absurd judged
 decoded bytes texts t (Err (refusal.NotYet n)) is judged = (texts, t, is, judged)
 decoded bytes texts t (Err (refusal.Check v name)) is judged = (texts, (t, is, judged.0, judged.1), judged.2)
 
--- what is known of the tree that is answered
-pub judged_tree : (texts : Table) (t : Tree) (P : Tree → Type 0) (r : Result (Tree × Table) ReadRefusal) → Judges texts t r → P t → IfOk r (λ x. P x.0)
-judged_tree texts t P (Ok x) judged is = subst P (sym judged.0) is
-judged_tree texts t P (Err e) judged is = tt
-
 judged_whole_of : (texts : Table) (t : Tree) → typed t ≡ true → (r : Result (Tree × Table) ReadRefusal) → Judges texts t r → IfOk r (λ x. IsTrue (is_whole x.0))
 judged_whole_of texts t is (Ok x) judged = let same : is_whole x.0 ≡ is_whole t = ap is_whole judged.0 in same ∙ eager_is_whole t is judged.2
 judged_whole_of texts t is (Err e) judged = tt
 
 pub judged_whole : (bytes : List ℕ) (texts : Table) (t : Tree) (r : Result (Tree × Table) ReadRefusal) → IsTreeOf bytes texts t → Judges texts t r → IfOk r (λ x. IsTrue (is_whole x.0))
 judged_whole bytes texts t r is judged = judged_whole_of texts t is.file.script.typed r judged
-
-pub judged_typed : (bytes : List ℕ) (texts : Table) (t : Tree) (r : Result (Tree × Table) ReadRefusal) → IsTreeOf bytes texts t → Judges texts t r → IfOk r (λ x. IsTrue (typed x.0))
-judged_typed bytes texts t r is judged = judged_tree texts t (λ u. IsTrue (typed u)) r judged is.file.script.typed
 
 tree_named : (bytes : List ℕ) (texts : Table) (t : Tree) → IsTreeOf bytes texts t → names_hold (is_text_of texts) t ≡ true
 tree_named bytes texts t is = subst (λ (x : Table). names_hold (is_text_of x) t ≡ true) is.texts_are (named_where_stands (tree_range bytes is.layout) t is.file.script.stands)

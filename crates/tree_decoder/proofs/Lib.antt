@@ -3,7 +3,6 @@ pub mod Decoding
 pub mod Dues
 pub mod EagerWhole
 pub mod EveryFile
-pub mod FileReadings
 pub mod InGrammar
 pub mod LazyAtoms
 pub mod LazyKinds

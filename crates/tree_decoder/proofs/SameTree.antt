@@ -36,10 +36,6 @@ record AlikeIn (h g : Held) (ds es : Data) (x y : List Atom) : Type 0 where
   pub same : AreSame h g ds es
   pub rest : x ≡ y
 
-record Known (h : Held) (t : FieldType) (v : Datum) : Type 0 where
-  pub fits : fits t v ≡ true
-  pub named : named_at h v ≡ true
-
 record KnownIn (h : Held) (ts : List FieldType) (ds : Data) : Type 0 where
   pub fits : fit ts ds ≡ true
   pub named : all_named h ds ≡ true

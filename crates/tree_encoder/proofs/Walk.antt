@@ -1,5 +1,5 @@
 -- Atoms that are written one after another.
-use Rattle.std.proofs.Common.{◌≡◌, ℕ, ◌+◌, ◌<◌, ◌≤◌, List, [], ◌∷◌, ◌++◌, length, length-append, Result, Ok, Err, refl, sym, ap, subst, ◌∙◌, arith}
+use Rattle.std.proofs.Common.{get_or, drop, ◌≡◌, ℕ, ◌+◌, ◌<◌, ◌≤◌, List, [], ◌∷◌, ◌++◌, length, length-append, Result, Ok, Err, refl, sym, ap, subst, ◌∙◌, arith}
 use Rattle.bast_schema.specs.declared.kind.Kind.{Kind}
 use Rattle.bast_schema.specs.declared.kind.FieldType.{FieldType}
 use Rattle.bast_schema.specs.Fields.{fields}
@@ -9,6 +9,9 @@ use Rattle.bast_schema.specs.Tree.{Tree, branch, Datum, Data, none, more, kind_o
 use Rattle.container.specs.Atoms.{Atom, kind, count, flag, index, whole, text, window, atoms, atoms_of, atoms_of_fields, atoms_of_items}
 use Rattle.bast_schema.specs.declared.kind.FieldType.TheVariants as field
 use Rattle.bast_schema.specs.declared.kind.Union.TheVariants.{Body}
+use Rattle.bast_schema.specs.View.{datum, data_of}
+use Rattle.bast_schema.specs.declared.node.Value.{Value}
+use Rattle.container.proofs.Fields.{atoms_of_fields_drop, atoms_of_items_drop}
 use Rattle.container.specs.Tables.{Tables, kind_place, text_place}
 use Rattle.var_numbers.proofs.VarnumLemmas.{varnum-nonempty}
 use Rattle.var_numbers.specs.Varnum.{varnum}
@@ -26,8 +29,20 @@ pub plain_parts : (a b : List Atom) → AllPlain (a ++ b) → AllPlain a × AllP
 plain_parts [] b plain = (tt, plain)
 plain_parts (x ∷ a) b plain = let parts = plain_parts a b plain.1 in ((plain.0, parts.0), parts.1)
 
-pub plain_next : (next rest all : List Atom) → all ≡ next ++ rest → AllPlain all → AllPlain next × AllPlain rest
-plain_next next rest all split plain = plain_parts next rest (subst (λ (x : List Atom). AllPlain x) split plain)
+-- the next atoms, and those behind them
+pub record Split (next rest all : List Atom) : Type 0 where
+  pub is : all ≡ next ++ rest
+
+pub fields_split : (h : Held) (ts : List FieldType) (vs : List Value) (i : ℕ) (t : FieldType) (v : Value) → i < length ts → i < length vs → v ≡ get_or vs i v
+    → Split (atoms_of h (get_or ts i t) (datum v)) (atoms_of_fields h (drop (i + 1) ts) (data_of (drop (i + 1) vs))) (atoms_of_fields h (drop i ts) (data_of (drop i vs)))
+fields_split h ts vs i t v lt within is = record { is = atoms_of_fields_drop h ts vs i t v lt within is }
+
+pub items_split : (h : Held) (vs : List Value) (i : ℕ) (v : Value) → v ≡ get_or vs i v → i < length vs
+    → Split (atoms_of h (field.Optional Body) (datum v)) (atoms_of_items h (data_of (drop (i + 1) vs))) (atoms_of_items h (data_of (drop i vs)))
+items_split h vs i v is within = record { is = atoms_of_items_drop h vs i v is within }
+
+pub plain_next : {next rest all : List Atom} → Split next rest all → AllPlain all → AllPlain next × AllPlain rest
+plain_next {next} {rest} split plain = plain_parts next rest (subst (λ (x : List Atom). AllPlain x) split.is plain)
 
 -- an atom takes a byte at least
 atom_takes : (s : Tables) (a : Atom) → 1 ≤ length (spelled_atom s a)
@@ -55,14 +70,14 @@ larger w next rest all split large =
     omega (arith, large)
 
 -- what is left, where the next atoms were written
-pub puts_next : (new old : Written) (next rest all : List Atom) (end : Written) → new ≡ written old next → all ≡ next ++ rest → written old all ≡ end → written new rest ≡ end
-puts_next new old next rest all end is split before = ap (λ (x : Written). written x rest) is ∙ sym (written-append old next rest) ∙ ap (written old) (sym split) ∙ before
+pub puts_next : {next rest all : List Atom} (new old end : Written) → Split next rest all → new ≡ written old next → written old all ≡ end → written new rest ≡ end
+puts_next {next} {rest} {all} new old end split is before = ap (λ (x : Written). written x rest) is ∙ sym (written-append old next rest) ∙ ap (written old) (sym split.is) ∙ before
 
 -- the next atoms are too large, and so are all
-pub puts_fail : (fault : EncodeFault) (first old new end : Written) (next rest all tree : List Atom) → all ≡ next ++ rest → written old all ≡ written first tree → Puts old next new (Err fault) → Puts first tree end (Err fault)
-puts_fail Memory first old new end next rest all tree split before puts = tt
-puts_fail TooLarge first old new end next rest all tree split before puts =
-    let large = larger old next rest all split puts in
+pub puts_fail : {next rest all : List Atom} (fault : EncodeFault) (first old new end : Written) (tree : List Atom) → Split next rest all → written old all ≡ written first tree → Puts old next new (Err fault) → Puts first tree end (Err fault)
+puts_fail Memory first old new end tree split before puts = tt
+puts_fail {next} {rest} {all} TooLarge first old new end tree split before puts =
+    let large = larger old next rest all split.is puts in
     let same : length (written old all).bytes ≡ length (written first tree).bytes = ap (λ (x : Written). length x.bytes) before in
     omega (arith, large)
 
@@ -109,8 +124,9 @@ atoms_split h (branch k ds) = refl
 -- a node's kind is too large already, and so is the node
 pub node_fails : (fault : EncodeFault) (old new end : Written) (h : Held) (t : Tree) (k : Kind) → k ≡ kind_of t → Puts old (kind k ∷ []) new (Err fault) → Puts old (atoms h t) end (Err fault)
 node_fails fault old new end h t k same puts =
-    puts_fail fault old old new end (kind k ∷ []) (atoms_of_fields h (fields (kind_of t)) (values_of t)) (atoms h t) (atoms h t)
-    (atoms_split h t ∙ ap (λ (j : Kind). kind j ∷ atoms_of_fields h (fields (kind_of t)) (values_of t)) (sym same)) refl puts
+    let split : Split (kind k ∷ []) (atoms_of_fields h (fields (kind_of t)) (values_of t)) (atoms h t) =
+    record { is = atoms_split h t ∙ ap (λ (j : Kind). kind j ∷ atoms_of_fields h (fields (kind_of t)) (values_of t)) (sym same) } in
+    puts_fail fault old old new end (atoms h t) split refl puts
 
 pub plain_join : (a b : List Atom) → AllPlain a → AllPlain b → AllPlain (a ++ b)
 plain_join [] b first rest = rest
