@@ -33,7 +33,7 @@ puts_null u k d w true is allow eager = ap (λ (j : Kind). Some (dues (fields j)
 puts_null u k d w false is allow eager = puts_plain u k d w allow eager
 
 -- a kind that may stand there puts its fields; that of an absent node has none
-puts_kind : (u : Union) (optional : Bool) (k : Kind) (d : ℕ) (w : Bool) → allowed u k ≡ true → (w && has_lazy k) ≡ false → puts (item_type u optional) d w (kind k) ≡ Some (dues (fields k) (below k d) w)
+pub puts_kind : (u : Union) (optional : Bool) (k : Kind) (d : ℕ) (w : Bool) → allowed u k ≡ true → (w && has_lazy k) ≡ false → puts (item_type u optional) d w (kind k) ≡ Some (dues (fields k) (below k d) w)
 puts_kind u true k d w allow eager = puts_null u k d w (same_kind k Null) refl allow eager
 puts_kind u false k d w allow eager = puts_plain u k d w allow eager
 

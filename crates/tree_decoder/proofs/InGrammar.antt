@@ -7,7 +7,7 @@ use Rattle.bast_schema.specs.Counts.{is_whole}
 use Rattle.bast_schema.specs.Tree.{Tree, typed}
 use Rattle.container.specs.Container.{container}
 use Rattle.container.specs.InFile.{InFile, is_unnested}
-use Rattle.container.specs.IsContainer.{IsFileOf, layout_in, tables}
+use Rattle.container.specs.IsContainer.{layout_in, tables}
 use Rattle.container.specs.Spelled.{spelled}
 use Rattle.container.proofs.LayoutSpelled.{layout_is_container}
 use Rattle.container.proofs.ReadBack.{layout_read}
@@ -15,6 +15,7 @@ use Rattle.container.specs.declared.layout.Layout.{Layout}
 use Rattle.tree_decoder.specs.Outer.{tree_range}
 use Rattle.tree_decoder.specs.Range.{IsSound}
 use Rattle.tree_decoder.specs.Spelt.{IsSpelt}
+use Rattle.tree_decoder.proofs.OneFile.{file_of}
 use Rattle.tree_decoder.proofs.Scripts.{script_accepted}
 use Rattle.tree_decoder.proofs.Sound.{texts_within}
 use Rattle.tree_decoder.proofs.Whole.{spelt_by_itself, unnested_script}
@@ -49,12 +50,7 @@ pub in_grammar-accepted : (bytes : List ℕ) (h : Held) (t : Tree) → length by
 in_grammar-accepted bytes h t short small file =
     let s = file.tables
     in let tree = spelled s h t
-    in let is_file : IsFileOf s tree bytes = record {
-      distinct_kinds = file.distinct_kinds;
-      distinct_texts = file.distinct_texts;
-      entries = file.entries;
-      spelling = file.spelling;
-    }
+    in let is_file = file_of bytes h t file
     in let was_read = layout_read s tree bytes is_file file.small
     in let l = layout_in s tree bytes
     in let r = tree_range bytes l

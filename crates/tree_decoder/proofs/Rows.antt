@@ -1,5 +1,5 @@
 -- The machine takes the longest row of atoms, and answers the cause for the first due behind it.
-use Rattle.std.proofs.Common.{ℕ, zero, suc, ◌+◌, ◌-◌, ◌<◌, ◌≤◌, ◌≡◌, Bool, true, false, ◌&&◌, get_or, List, [], ◌∷◌, ◌++◌, Option, Some, None, Result, Ok, Err, refl, sym, ap, ◌∙◌, arith, append-nil}
+use Rattle.std.proofs.Common.{ℕ, zero, suc, ◌+◌, ◌-◌, ◌<◌, ◌≤◌, ◌≡◌, Bool, true, false, get_or, List, [], ◌∷◌, ◌++◌, Option, Some, None, Result, Ok, Err, refl, sym, ap, ◌∙◌, arith, append-nil}
 use Rattle.bast_base.specs.declared.errors.FormatFault.{FormatFault}
 use Rattle.bast_schema.specs.declared.kind.FieldType.{FieldType}
 use Rattle.bast_schema.specs.declared.kind.FieldType.TheVariants as field
@@ -7,11 +7,8 @@ use Rattle.bast_schema.specs.declared.kind.Kind.{Kind}
 use Rattle.bast_schema.specs.declared.kind.Kind.TheVariants.{Null}
 use Rattle.bast_schema.specs.declared.kind.Union.{Union}
 use Rattle.bast_schema.specs.Choices.{choice_texts}
-use Rattle.bast_schema.specs.Fields.{has_lazy}
 use Rattle.bast_schema.specs.Held.{Held, text_of, bytes_of}
-use Rattle.bast_schema.specs.Kinds.{same_kind}
 use Rattle.bast_schema.specs.Tree.{Datum, flag, index, whole, name, no_name, choice, window, fits, item_type}
-use Rattle.bast_schema.specs.Unions.{allowed}
 use Rattle.bast_schema.proofs.Both.{and_first, and_second}
 use Rattle.container.specs.Atoms as atom
 use Rattle.container.specs.Atoms.{Atom, atoms_of}
@@ -27,7 +24,7 @@ use Rattle.tree_decoder.specs.Range.{Range, IsSound, held, left}
 use Rattle.container.specs.SpelledAtom.{spelled_atom}
 use Rattle.tree_decoder.specs.Row.{Longest, here, and_then}
 use Rattle.tree_decoder.specs.Windows.{windows_at}
-use Rattle.tree_decoder.proofs.Dues.{left_at, puts_plain, puts_null}
+use Rattle.tree_decoder.proofs.Dues.{left_at, puts_kind}
 use Rattle.tree_decoder.proofs.Moves.{atom_cases, atom_moves}
 use Rattle.tree_decoder.proofs.Nodes.{absent_stands, count_stands, kind_stands}
 use Rattle.tree_decoder.proofs.Single.{leaf_stands}
@@ -41,10 +38,6 @@ record Step (r : Range) (t : FieldType) (d : ℕ) (w : Bool) (at : ℕ) (y : Tak
   pub spelled : left r at ≡ spelled_atom r.tables atom ++ left r y.next
   pub puts : puts t d w atom ≡ Some y.puts
 
-node_puts : (u : Union) (optional : Bool) (d : ℕ) (w : Bool) (k : Kind) → allowed u k ≡ true → (w && has_lazy k) ≡ false → puts (item_type u optional) d w (atom.kind k) ≡ Some (children (Some k) d w)
-node_puts u true d w k allow plain = puts_null u k d w (same_kind k Null) refl allow plain
-node_puts u false d w k allow plain = puts_plain u k d w allow plain
-
 absent_puts : (u : Union) (optional : Bool) (d : ℕ) (w : Bool) → optional ≡ true → puts (item_type u optional) d w (atom.kind Null) ≡ Some []
 absent_puts u true d w is = refl
 absent_puts u false d w is = absurd cc
@@ -52,7 +45,7 @@ absent_puts u false d w is = absurd cc
 node_step : (r : Range) (u : Union) (optional : Bool) (d : ℕ) (w : Bool) (at : ℕ) (o : Option Kind) (m : ℕ) → IsSound r → at ≤ r.end → kind_at r u optional d w at ≡ Ok (o, m) → Step r (item_type u optional) d w at (taken (children o d w) [] m)
 node_step r u optional d w at (Some k) m sound order e =
     let k-stands = kind_stands r u optional d w at k m sound order e in
-    record { atom = atom.kind k; spelled = k-stands.spelled; puts = node_puts u optional d w k k-stands.allowed k-stands.plain }
+    record { atom = atom.kind k; spelled = k-stands.spelled; puts = puts_kind u optional k d w k-stands.allowed k-stands.plain }
 node_step r u optional d w at None m sound order e =
     let none-stands = absent_stands r u optional d w at m sound order e in
     record { atom = atom.kind Null; spelled = none-stands.0; puts = absent_puts u optional d w none-stands.1 }
