@@ -1,6 +1,5 @@
 use super::*;
 
-mod builder;
 mod cases;
 mod contexts;
 mod functions;

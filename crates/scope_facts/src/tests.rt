@@ -2,7 +2,6 @@ use super::*;
 use std::test::Fail;
 
 mod budget;
-mod builder;
 mod cases;
 mod covers;
 mod functions;

@@ -2,10 +2,9 @@ use super::*;
 use std::alloc::Global;
 use string_table::StringTable;
 
-mod builder;
 mod plain;
 
-use builder::tree_of;
+use tree_words::{Scopes, tree_of};
 use plain::is_plain;
 
 // What `encode` answers of the tree that the words tell. Its table of strings has other texts before the tree's.
@@ -15,7 +14,7 @@ fn encoded(alloc: Global, words: &str) -> Option<Result<Vec<u8>, EncodeFault>> {
     if strings.len() < 9 {
         strings.intern("let").ok()?;
     }
-    let tree = tree_of(alloc, &mut strings, words)?;
+    let tree = tree_of(alloc, &mut strings, words, ',', Scopes::Told)?;
     if !is_plain(&tree) {
         return None;
     }

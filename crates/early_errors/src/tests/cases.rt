@@ -1,14 +1,11 @@
 // Whether a tree that is told by words has the early error that is wanted of it.
-use super::builder::{node_at, words_of};
 use crate::first_early;
 use bast_base::NameId;
 use bast_schema::values_left;
 use scope_facts::{Ctx, Rule, Violation};
 use std::alloc::Global;
 use string_table::StringTable;
-
-/// How many levels a tree of the tests has at most.
-const LEVELS: u32 = 60;
+use tree_words::{Scopes, tree_of};
 
 /// The rule of a word.
 fn rule_of(word: &str) -> Option<Rule> {
@@ -64,11 +61,7 @@ fn both(
     wanted: &str,
 ) -> Option<(Option<Violation>, Option<Violation>)> {
     let mut table = StringTable::new(alloc);
-    let words = words_of(alloc, words)?;
-    let (tree, end) = node_at(alloc, &mut table, &words, 0, LEVELS)?;
-    if end != words.len() {
-        return None;
-    }
+    let tree = tree_of(alloc, &mut table, words, ' ', Scopes::Empty)?;
     let _left = values_left(&tree, 10_000)?;
     let found = first_early(alloc, &tree, ctx, &table).ok()?;
     if wanted == "none" {

@@ -1,14 +1,11 @@
 // Whether a tree that is told by words has the violation that is wanted of it.
-use super::builder::{node_at, words_of};
 use crate::first_untrue;
 use bast_base::{Items, NameId};
 use bast_schema::values_left;
 use scope_facts::{Ctx, FactName, Rule, ScopeFacts, Violation, annotate};
 use std::alloc::Global;
 use string_table::StringTable;
-
-/// How many levels a tree of the tests has at most.
-const LEVELS: u32 = 60;
+use tree_words::{Scopes, tree_of};
 
 /// The rule of a word.
 fn rule_of(word: &str) -> Option<Rule> {
@@ -66,11 +63,7 @@ fn both(
 ) -> Option<(Option<Violation>, Option<Violation>)> {
     let mut table = StringTable::new(alloc);
     let ctx = context_of(alloc, table.intern("a").ok()?, scopes)?;
-    let words = words_of(alloc, words)?;
-    let (tree, end) = node_at(alloc, &mut table, &words, 0, LEVELS)?;
-    if end != words.len() {
-        return None;
-    }
+    let tree = tree_of(alloc, &mut table, words, ' ', Scopes::Told)?;
     let _left = values_left(&tree, 10_000)?;
     let found = first_untrue(alloc, &tree, &ctx, &table).ok()?;
     if wanted == "none" {
@@ -91,8 +84,7 @@ pub fn is_found(alloc: Global, scopes: &[(bool, bool)], words: &str, wanted: &st
 /// What is found in the tree that words tell, once its scopes are exact.
 fn found_in_exact(alloc: Global, words: &str) -> Option<Option<Violation>> {
     let mut table = StringTable::new(alloc);
-    let words = words_of(alloc, words)?;
-    let (tree, _) = node_at(alloc, &mut table, &words, 0, LEVELS)?;
+    let tree = tree_of(alloc, &mut table, words, ' ', Scopes::Told)?;
     let _left = values_left(&tree, 10_000)?;
     let tree = annotate(alloc, tree, &table).ok()?;
     let _still_left = values_left(&tree, 10_000)?;

@@ -1,11 +1,11 @@
 // Whether a tree that is told by words gets the scopes that it has to have.
 use super::budget::left_after;
-use super::builder::{node_at, words_of};
 use super::shown::put_scopes;
 use crate::{annotate, plain};
 use bast_schema::{Kind, Value};
 use std::alloc::Global;
 use string_table::StringTable;
+use tree_words::{Scopes, tree_of};
 
 /// How many levels a tree of the tests has at most.
 const LEVELS: u32 = 60;
@@ -13,11 +13,7 @@ const LEVELS: u32 = 60;
 /// The scopes of the tree that the words tell: those of the tree with exact scopes, then those of its plain tree.
 fn scopes_of(alloc: Global, words: &str) -> Option<(String, String)> {
     let mut table = StringTable::new(alloc);
-    let words = words_of(alloc, words)?;
-    let (tree, end) = node_at(alloc, &mut table, &words, 0, LEVELS)?;
-    if end != words.len() {
-        return None;
-    }
+    let tree = tree_of(alloc, &mut table, words, ' ', Scopes::Empty)?;
     let _left = left_after(&tree, 1000)?;
     let tree = annotate(alloc, tree, &table).ok()?;
     let mut exact = String::new(alloc);
@@ -64,8 +60,7 @@ pub fn is_eager(alloc: Global, words: &str) -> bool {
 /// The kind of the first statement of the plain tree of what the words tell.
 fn first_kind(alloc: Global, words: &str) -> Option<Kind> {
     let mut table = StringTable::new(alloc);
-    let words = words_of(alloc, words)?;
-    let (tree, _) = node_at(alloc, &mut table, &words, 0, LEVELS)?;
+    let tree = tree_of(alloc, &mut table, words, ' ', Scopes::Empty)?;
     let _left = left_after(&tree, 1000)?;
     let tree = plain(alloc, tree).ok()?;
     match tree.fields() {

@@ -1,5 +1,5 @@
 use Rattle.std.proofs.Common.{◌+◌, ◌*◌}
-use Rattle.scope_facts.proofs.tests.builder.+build.Given as goal
+use Rattle.tree_words.proofs.words.+build.Given as goal
 
 abbrev pub decreases-node_at : goal.decreases-node_at
 decreases-node_at l = 4 * l.levels
