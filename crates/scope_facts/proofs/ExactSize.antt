@@ -16,6 +16,7 @@ use Rattle.bast_schema.specs.Tree.{Tree, branch, Datum, child, listed, flag, nam
 use Rattle.bast_schema.proofs.Both.{and_first, and_second}
 use Rattle.bast_schema.proofs.EachKind.{same_kind_true}
 use Rattle.scope_facts.proofs.NamesOfBare.{scope_form}
+use Rattle.scope_facts.proofs.FlaggedTyped.{size_same}
 use Rattle.scope_facts.proofs.Sizes.{size_at_positive}
 use Rattle.scope_facts.specs.declared.names.Declared.{Declared}
 use Rattle.scope_facts.specs.declared.names.NameKind.{NameKind}
@@ -26,11 +27,10 @@ use Rattle.scope_facts.specs.declared.roles.Shape.{Shape}
 use Rattle.scope_facts.specs.declared.roles.Shape.TheVariants as shape
 use Rattle.scope_facts.specs.Roles as roles
 use Rattle.scope_facts.specs.Roles.{shape_of, part, is_scope_part}
-use Rattle.scope_facts.specs.Uses.{is_scope, first_name, crossed_in, evals_in}
+use Rattle.scope_facts.specs.Uses.{is_scope, first_name}
 use Rattle.scope_facts.specs.Names.{with_kind, binding_name, bound_at, bound, bound_below_at, bound_below, declarators, lexical_kind, is_var_head, head_kind, vars_by, vars, vars_at, vars_in, lexicals_by, lexicals, lexicals_at, lexicals_in, tops_by, tops_at, tops_among, tops_in, same, once}
 use Rattle.scope_facts.specs.Entries.{declared_entries, bound_entries, rest_entries, place_entry, item_entries, list_entries, parameter_entries_by, parameter_entries_at, parameter_entries, is_binding, entries, flags_by, is_simple}
 use Rattle.scope_facts.specs.Filled.{filled_scope, filled, filled_at, filled_in, filled_among}
-use Rattle.scope_facts.specs.Flagged.{with_flag, holds_of, entry_by, entries_by, fields_by, scope_by, flagged_scope, flagged, flagged_at, flagged_in, flagged_among}
 use Rattle.scope_facts.specs.Exact.{exact, eval_name}
 
 -- how many names a value binds itself
@@ -621,49 +621,5 @@ root_small k ds false e h = omega (arith, node_small (branch k ds) e h)
 pub filled_small : (t : Tree) → typed t ≡ true → size (filled t) ≤ 4 * size t
 filled_small (branch k ds) h = root_small k ds (is_script k) refl h
 
--- flags take the place of flags
-
-with_flag_size : (b : Bool) (ds : Data) → size_in (with_flag b ds) ≡ size_in ds
-with_flag_size b none = refl
-with_flag_size b (more (flag c) ds) = refl
-with_flag_size b (more d ds) = ap (λ n. size_at d + n) (with_flag_size b ds)
-
-entry_size : (c : ℕ → Bool) (d : Datum) → size_at (entry_by c d) ≡ size_at d
-entry_size c (child (branch k ds)) = ap (λ n. 1 + n) (with_flag_size (holds_of c (first_name ds)) ds)
-entry_size c _ = refl
-
-entries_size : (c : ℕ → Bool) (es : Data) → size_in (entries_by c es) ≡ size_in es
-entries_size c none = refl
-entries_size c (more d es) = rw (entry_size c d, entries_size c es) refl
-
-fields_size : (c : ℕ → Bool) (b : Bool) (ds : Data) → size_in (fields_by c b ds) ≡ size_in ds
-fields_size c b (more (listed es) ds) = rw (entries_size c es, with_flag_size b ds) refl
-fields_size c b _ = refl
-
-flagged_scope_size : (c : ℕ → Bool) (b : Bool) (d : Datum) → size_at (scope_by c b d) ≡ size_at d
-flagged_scope_size c b (child (branch k ds)) = ap (λ n. 1 + n) (fields_size c b ds)
-flagged_scope_size c b _ = refl
-
-flagged_field_size : (e : Option ℕ) (d : Datum) (after : Data) (b : Bool) → size_at (flagged_at e d) ≡ size_at d → size_at (if b then flagged_scope e d after else flagged_at e d) ≡ size_at d
-flagged_field_size e d after true h = flagged_scope_size (λ x. crossed_in x after) (evals_in e after) d
-flagged_field_size e d after false h = h
-
-mutual
-  pub flagged_size : (e : Option ℕ) (t : Tree) → size (flagged e t) ≡ size t
-  flagged_size e (branch k ds) = ap (λ n. 1 + n) (flagged_size_in e ds)
-
-  pub flagged_size_at : (e : Option ℕ) (d : Datum) → size_at (flagged_at e d) ≡ size_at d
-  flagged_size_at e (child t) = flagged_size e t
-  flagged_size_at e (listed ds) = ap (λ n. 1 + n) (flagged_size_among e ds)
-  flagged_size_at e _ = refl
-
-  pub flagged_size_in : (e : Option ℕ) (ds : Data) → size_in (flagged_in e ds) ≡ size_in ds
-  flagged_size_in e none = refl
-  flagged_size_in e (more d ds) = rw (flagged_field_size e d ds (is_scope d) (flagged_size_at e d), flagged_size_in e ds) refl
-
-  pub flagged_size_among : (e : Option ℕ) (ds : Data) → size_in (flagged_among e ds) ≡ size_in ds
-  flagged_size_among e none = refl
-  flagged_size_among e (more d ds) = rw (flagged_size_at e d, flagged_size_among e ds) refl
-
 pub exact_small : (texts : List (Option (List ℕ))) (t : Tree) → typed t ≡ true → size (exact texts t) ≤ 4 * size t
-exact_small texts t h = omega (arith, flagged_size (eval_name texts) (filled t), filled_small t h)
+exact_small texts t h = omega (arith, size_same (eval_name texts) (filled t), filled_small t h)

@@ -27,15 +27,7 @@ all_append p (x ∷ xs) ys h g = both (p x) (list_all p (xs ++ ys)) (and_first (
 pub first_holds : (p : ℕ → Bool) (ds : Data) → names_hold_in p ds ≡ true → list_all p (option_to_list (first_name ds)) ≡ true
 first_holds p none h = refl
 first_holds p (more (name n) ds) h = both (p n) true (and_first (p n) (names_hold_in p ds) h) refl
-first_holds p (more (child t) ds) h = first_holds p ds (and_second (names_hold p t) (names_hold_in p ds) h)
-first_holds p (more (listed es) ds) h = first_holds p ds (and_second (names_hold_in p es) (names_hold_in p ds) h)
-first_holds p (more absent ds) h = first_holds p ds h
-first_holds p (more (flag b) ds) h = first_holds p ds h
-first_holds p (more (index n) ds) h = first_holds p ds h
-first_holds p (more (whole n) ds) h = first_holds p ds h
-first_holds p (more no_name ds) h = first_holds p ds h
-first_holds p (more (choice n) ds) h = first_holds p ds h
-first_holds p (more (window m n) ds) h = first_holds p ds h
+first_holds p (more d ds) h = first_holds p ds (and_second (names_hold_at p d) (names_hold_in p ds) h)
 
 binding_holds : (p : ℕ → Bool) (f : Form) (ds : Data) → names_hold_in p ds ≡ true → list_all p (option_to_list (binding_name f ds)) ≡ true
 binding_holds p Binding ds h = first_holds p ds h
@@ -60,15 +52,7 @@ below_holds p (more d ds) h = all_append p (bound_below_at d) (bound_below ds) (
 declarators_hold : (p : ℕ → Bool) (ds : Data) → names_hold_in p ds ≡ true → list_all p (declarators ds) ≡ true
 declarators_hold p none h = refl
 declarators_hold p (more (listed es) ds) h = below_holds p es (and_first (names_hold_in p es) (names_hold_in p ds) h)
-declarators_hold p (more (name n) ds) h = declarators_hold p ds (and_second (p n) (names_hold_in p ds) h)
-declarators_hold p (more (child t) ds) h = declarators_hold p ds (and_second (names_hold p t) (names_hold_in p ds) h)
-declarators_hold p (more absent ds) h = declarators_hold p ds h
-declarators_hold p (more (flag b) ds) h = declarators_hold p ds h
-declarators_hold p (more (index n) ds) h = declarators_hold p ds h
-declarators_hold p (more (whole n) ds) h = declarators_hold p ds h
-declarators_hold p (more no_name ds) h = declarators_hold p ds h
-declarators_hold p (more (choice n) ds) h = declarators_hold p ds h
-declarators_hold p (more (window m n) ds) h = declarators_hold p ds h
+declarators_hold p (more d ds) h = declarators_hold p ds (and_second (names_hold_at p d) (names_hold_in p ds) h)
 
 head_holds : (p : ℕ → Bool) (b : Bool) (xs : List ℕ) → list_all p xs ≡ true → list_all p (if b then xs else []) ≡ true
 head_holds p true xs h = h
@@ -137,15 +121,7 @@ tops_among_hold p (more d ds) h = all_append (λ (a : Declared). p a.name) (tops
 tops_in_hold : (p : ℕ → Bool) (ds : Data) → names_hold_in p ds ≡ true → list_all (λ a. p a.name) (tops_in ds) ≡ true
 tops_in_hold p none h = refl
 tops_in_hold p (more (listed es) ds) h = tops_among_hold p es (and_first (names_hold_in p es) (names_hold_in p ds) h)
-tops_in_hold p (more (name n) ds) h = tops_in_hold p ds (and_second (p n) (names_hold_in p ds) h)
-tops_in_hold p (more (child t) ds) h = tops_in_hold p ds (and_second (names_hold p t) (names_hold_in p ds) h)
-tops_in_hold p (more absent ds) h = tops_in_hold p ds h
-tops_in_hold p (more (flag b) ds) h = tops_in_hold p ds h
-tops_in_hold p (more (index n) ds) h = tops_in_hold p ds h
-tops_in_hold p (more (whole n) ds) h = tops_in_hold p ds h
-tops_in_hold p (more no_name ds) h = tops_in_hold p ds h
-tops_in_hold p (more (choice n) ds) h = tops_in_hold p ds h
-tops_in_hold p (more (window m n) ds) h = tops_in_hold p ds h
+tops_in_hold p (more d ds) h = tops_in_hold p ds (and_second (names_hold_at p d) (names_hold_in p ds) h)
 
 once_step : (q : Declared → Bool) (b : Bool) (a : Declared) (xs ys : List Declared) → q a ≡ true → list_all q xs ≡ true → list_all q ys ≡ true → list_all q (if b then xs else a ∷ ys) ≡ true
 once_step q true a xs ys h g f = g

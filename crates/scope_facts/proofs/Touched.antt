@@ -59,10 +59,7 @@ within_more n (Some e) h = one_more n e.function h
 
 pub within_inside : (p : Part) (n : ℕ) (cs : List (Option Cover)) → AreWithin n cs → AreWithin (inside_now p n) cs
 within_inside Function n cs w = record { all = λ x. within_more n (cover_of cs x) (w.all x) }
-within_inside Scope n cs w = w
-within_inside Use n cs w = w
-within_inside Call n cs w = w
-within_inside Other n cs w = w
+within_inside _ n cs w = w
 
 not_less : (n : ℕ) → nat_lt n n ≡ false
 not_less n = grind (arith, nat_tests)
@@ -131,15 +128,7 @@ named x (Some n) = sym (or_false (nat_eq n x))
 
 entry_named : (x : ℕ) (d : Datum) → is_entry x d ≡ has_name x (option_to_list (entry_name d))
 entry_named x (child (branch k ds)) = named x (first_name ds)
-entry_named x (listed ds) = refl
-entry_named x absent = refl
-entry_named x (flag b) = refl
-entry_named x (index n) = refl
-entry_named x (whole n) = refl
-entry_named x (name n) = refl
-entry_named x no_name = refl
-entry_named x (choice n) = refl
-entry_named x (window m n) = refl
+entry_named x _ = refl
 
 or_assoc : (a b c : Bool) → (a || (b || c)) ≡ ((a || b) || c)
 or_assoc true b c = refl
