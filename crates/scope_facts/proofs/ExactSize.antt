@@ -15,6 +15,7 @@ use Rattle.bast_schema.specs.Counts.{size, size_at, size_in}
 use Rattle.bast_schema.specs.Tree.{Tree, branch, Datum, child, listed, flag, name, Data, none, more, typed, fits, fit, items_fit, item_type, is_none, kind_of}
 use Rattle.bast_schema.proofs.Both.{and_first, and_second}
 use Rattle.bast_schema.proofs.EachKind.{same_kind_true}
+use Rattle.scope_facts.proofs.Clean.{none_of, not_true, child_typed}
 use Rattle.scope_facts.proofs.NamesOfBare.{scope_form}
 use Rattle.scope_facts.proofs.FlaggedTyped.{size_same}
 use Rattle.scope_facts.proofs.Sizes.{size_at_positive}
@@ -200,46 +201,16 @@ abbrev at_most_one : (Kind → Bool) → List FieldType → Bool
 at_most_one q [] = true
 at_most_one q (t ∷ ts) = if may q t then no q ts else at_most_one q ts
 
-not_here : (q : Kind → Bool) (j k : Kind) (b : Bool) → same_kind j k ≡ b → q j ≡ false → (b ≡ false → q k ≡ false) → q k ≡ false
-not_here q j k true e h g = ap q (sym (same_kind_true j k e)) ∙ h
-not_here q j k false e h g = g refl
-
-or_first : (a b : Bool) → (a || b) ≡ false → a ≡ false
-or_first true b e = cc
-or_first false b e = refl
-
-or_second : (a b : Bool) → (a || b) ≡ false → b ≡ false
-or_second true b e = cc
-or_second false b e = e
-
-without : (a b : Bool) → (a || b) ≡ true → a ≡ false → b ≡ true
-without true b e f = cc
-without false b e f = e
-
-none_of : (q : Kind → Bool) (js : List Kind) (k : Kind) → list_any (λ j. same_kind j k) js ≡ true → list_any q js ≡ false → q k ≡ false
-none_of q [] k h g = cc
-none_of q (j ∷ js) k h g = not_here q j k (same_kind j k) refl (or_first (q j) (list_any q js) g) (λ e. none_of q js k (without (same_kind j k) (list_any (λ i. same_kind i k) js) h e) (or_second (q j) (list_any q js) g))
-
 never : (q : Kind → Bool) (t : FieldType) (u : Tree) → fits t (child u) ≡ true → may q t ≡ false → q (kind_of u) ≡ false
 never q (field.Node w) u h g = none_of q (kinds_in w) (kind_of u) (and_first (allowed w (kind_of u)) (typed u) h) g
 never q (field.Optional w) u h g = none_of q (kinds_in w) (kind_of u) (and_first (allowed w (kind_of u)) (typed u) h) g
 never q (field.Lazy w) u h g = none_of q (kinds_in w) (kind_of u) (and_first (allowed w (kind_of u)) (typed u) h) g
 never q _ u h g = cc
 
-typed_child : (t : FieldType) (u : Tree) → fits t (child u) ≡ true → typed u ≡ true
-typed_child (field.Node w) u h = and_second (allowed w (kind_of u)) (typed u) h
-typed_child (field.Optional w) u h = and_second (allowed w (kind_of u)) (typed u) h
-typed_child (field.Lazy w) u h = and_second (allowed w (kind_of u)) (typed u) h
-typed_child _ u h = cc
-
 listed_by : (q : Kind → Bool) (P : Type 0) (t : FieldType) (es : Data) → fits t (listed es) ≡ true → may q t ≡ false → ((u : Union) (holes : Bool) → items_fit u holes es ≡ true → may q (item_type u holes) ≡ false → P) → P
 listed_by q P (field.List u true nonempty) es h g go = go u true (and_second (not nonempty || not (is_none es)) (items_fit u true es) h) g
 listed_by q P (field.List u false nonempty) es h g go = go u false (and_second (not nonempty || not (is_none es)) (items_fit u false es) h) g
 listed_by q P _ es h g go = cc
-
-not_true : (b : Bool) → not b ≡ true → b ≡ false
-not_true true h = cc
-not_true false h = refl
 
 -- a sum over values, each with those after it, to which only values of certain kinds add
 
@@ -587,7 +558,7 @@ mutual
       (fields_small (bound ds) ds (fields k) (and_first (no is_script (fields k)) (binds_one (roles.form k) (fields k) && scopes_apart (roles.form k) (fields k)) (each_apart k s)) h)
 
   field_small : (d : Datum) (t : FieldType) → may is_script t ≡ false → fits t d ≡ true → size_at (filled_at d) + 4 * up_at d + 2 * binds_at d ≤ 4 * size_at d
-  field_small (child u) t s h = node_small u (never is_script t u h s) (typed_child t u h)
+  field_small (child u) t s h = node_small u (never is_script t u h s) (child_typed t u h)
   field_small (listed es) t s h = let g : size_in (filled_among es) + 4 * up_in es ≤ 4 * size_in es = listed_by is_script (size_in (filled_among es) + 4 * up_in es ≤ 4 * size_in es) t es h s (λ u holes f r. items_small es u holes r f) in omega arith
   field_small _ t s h = omega arith
 

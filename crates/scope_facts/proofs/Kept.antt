@@ -2,6 +2,7 @@
 use Rattle.std.proofs.Common.{ℕ, List, [], ◌≡◌, Bool, true, false, refl, ap, sym, ◌&&◌, ◌||◌, not, if◌then◌else◌, Option, None, Some, ◌∙◌}
 use Rattle.bast_schema.specs.declared.kind.Kind.{Kind}
 use Rattle.bast_schema.specs.Tree.{Tree, branch, Datum, child, absent, listed, flag, index, whole, name, no_name, choice, window, Data, none, more}
+use Rattle.bast_schema.proofs.Both.{both}
 use Rattle.scope_facts.specs.declared.roles.Part.{Part}
 use Rattle.scope_facts.specs.declared.roles.Part.TheVariants.{Scope, Use, Call, Function, Other}
 use Rattle.scope_facts.specs.Roles.{part, is_scope_part}
@@ -11,7 +12,7 @@ use Rattle.scope_facts.specs.Flagged.{with_flag, holds_of, entry_by, entries_by,
 use Rattle.scope_facts.specs.Filled.{filled}
 use Rattle.scope_facts.specs.Exact.{exact, eval_name}
 use Rattle.scope_facts.specs.Reading.{says_eval, evals_told, evals_told_at, evals_told_in, evals_told_among}
-use Rattle.scope_facts.proofs.Nearest.{uses_respect}
+use Rattle.scope_facts.proofs.Nearest.{or_left, or_right, uses_respect}
 
 pub first_name_flag : (b : Bool) (ds : Data) → first_name (with_flag b ds) ≡ first_name ds
 first_name_flag b none = refl
@@ -181,17 +182,6 @@ says_with b (more d ds) h = says_with b ds h
 says_flagged : (e : Option ℕ) (d : Datum) (after : Data) → evals_in e after ≡ true → says_eval (flagged_scope e d after) ≡ true
 says_flagged e (child (branch k (more (listed es) ds))) after h = says_with (evals_in e after) ds h
 says_flagged e _ after h = refl
-
-both : (a b : Bool) → a ≡ true → b ≡ true → (a && b) ≡ true
-both a b e f = rw (e, f) refl
-
-or_left : (a b : Bool) → a ≡ true → (a || b) ≡ true
-or_left true b e = refl
-or_left false b e = cc
-
-or_right : (a b : Bool) → b ≡ true → (a || b) ≡ true
-or_right true b e = refl
-or_right false b e = e
 
 told_here : (a b : Bool) → (a ≡ true → b ≡ true) → (not a || b) ≡ true
 told_here true b h = h refl

@@ -15,8 +15,8 @@ use Rattle.scope_facts.specs.Roles.{part, is_function}
 use Rattle.scope_facts.specs.Uses.{is_scope, first_name, is_name, is_entry, has_entry, declares, is_use_named, is_use_of, used, used_at, used_in, used_among, crossed, crossed_at, crossed_in, crossed_among, evals_in}
 use Rattle.scope_facts.specs.Flagged.{holds_of, entry_by, entries_by, scope_by, flagged_scope, flagged_in}
 use Rattle.scope_facts.specs.Covers.{cover_of, touched, is_caught, is_within, AreWithin, has_name, entry_name, names_among, entry_names, restored, inside_now, Touches}
-use Rattle.scope_facts.proofs.Nearest.{crossed_used_in}
-use Rattle.scope_facts.proofs.FlaggedItems.{used_last, crossed_last}
+use Rattle.scope_facts.proofs.Nearest.{or_left, or_right, crossed_used_in}
+use Rattle.scope_facts.proofs.FlaggedItems.{or_assoc, used_last, crossed_last}
 
 or_false : (b : Bool) → (b || false) ≡ b
 or_false true = refl
@@ -130,10 +130,6 @@ entry_named : (x : ℕ) (d : Datum) → is_entry x d ≡ has_name x (option_to_l
 entry_named x (child (branch k ds)) = named x (first_name ds)
 entry_named x _ = refl
 
-or_assoc : (a b c : Bool) → (a || (b || c)) ≡ ((a || b) || c)
-or_assoc true b c = refl
-or_assoc false b c = refl
-
 has_append : (x : ℕ) (ms ns : List ℕ) → has_name x (ms ++ ns) ≡ (has_name x ms || has_name x ns)
 has_append x [] ns = refl
 has_append x (m ∷ ms) ns = ap (λ b. nat_eq m x || b) (has_append x ms ns) ∙ or_assoc (nat_eq m x) (has_name x ms) (has_name x ns)
@@ -176,14 +172,6 @@ scope_touches d ds all ns now os bs cs es shadows is s ne entered kept t left =
 
 equal_names : (n : ℕ) → nat_eq n n ≡ true
 equal_names n = grind (arith, nat_tests)
-
-or_left : (a b : Bool) → a ≡ true → (a || b) ≡ true
-or_left true b e = refl
-or_left false b e = cc
-
-or_right : (a b : Bool) → b ≡ true → (a || b) ≡ true
-or_right true b e = refl
-or_right false b e = e
 
 holds_same : (c e : ℕ → Bool) (o : Option ℕ) → ((x : ℕ) → is_name x o ≡ true → c x ≡ e x) → holds_of c o ≡ holds_of e o
 holds_same c e None h = refl
