@@ -57,7 +57,7 @@ use Rattle.binast_run.specs.Laws.{IsExactTreeOf, IsReadBack}
 use Rattle.binast_run.specs.Lines.{large_file_line}
 use Rattle.binast_run.specs.SourceLines.{source_line, violation_text}
 use Rattle.binast_run.specs.Sources.{AnswersSource, no_text, no_tree, has_tree, source_file, early_answer}
-use Rattle.binast_run.proofs.EagerKept.{exact_eager}
+use Rattle.scope_facts.proofs.WholeKept.{exact_eager}
 use Rattle.binast_run.proofs.Matching.{matched, matched_apart, is_matched_text, matched_texts, matched_there, matched_eval}
 use Rattle.binast_run.proofs.RenamedTree.{SameTexts, same_renamed, named_renamed, whole_renamed, matched_tree}
 use Rattle.binast_run.proofs.SourceFacts.{SourceFacts, source_facts}

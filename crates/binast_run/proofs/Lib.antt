@@ -1,4 +1,3 @@
-pub mod EagerKept
 pub mod Encoded
 pub mod ExactNamed
 pub mod FileAnswers

@@ -12,7 +12,7 @@ use Rattle.binast_run.specs.Answer.{Answer as Outcome, most_bytes, output, refus
 use Rattle.binast_run.specs.Lines.{large_file_line}
 use Rattle.binast_run.specs.SourceLines.{fault_text, not_utf8_text, source_line}
 use Rattle.binast_run.specs.Sources.{AnswersSource, IsSpelled, early_answer, has_tree, no_text, no_tree, source_file, tree_answer}
-use Rattle.binast_run.proofs.EagerKept.{exact_eager}
+use Rattle.scope_facts.proofs.WholeKept.{exact_eager}
 use Rattle.binast_run.proofs.ExactNamed.{exact_kind, names_are}
 use Rattle.binast_run.proofs.SourceFacts.{source_facts}
 use Rattle.container.specs.InFile.{IsEntry}

@@ -13,7 +13,7 @@ use Rattle.bast_schema.specs.Kinds.{counted}
 use Rattle.bast_schema.specs.Made.{node_of}
 use Rattle.bast_schema.specs.Counts.{is_whole, is_whole_at, is_whole_in}
 use Rattle.bast_schema.specs.Tree.{Tree, branch, Datum, child, absent, listed, flag, index, whole, name, no_name, choice, window, Data, none, more, typed, fits, fit, items_fit, item_type, is_none, depth, depth_at, depth_in, kind_of}
-use Rattle.bast_schema.proofs.Both.{and_first, and_second}
+use Rattle.bast_schema.proofs.Both.{and_first, and_second, both}
 use Rattle.bast_schema.proofs.Typed.{made_where_fit, allowed_one}
 use Rattle.scope_facts.specs.Roles.{part, is_scope_part, shape_of}
 use Rattle.scope_facts.specs.Uses.{is_scope}
@@ -115,9 +115,6 @@ at_most n e = omega arith
 pub empty_made : (k : Kind) (ds : Data) → is_scope_part (part k) ≡ true → ds ≡ empty_fields (shape_of k) → node_of k ds ≡ Ok (branch k ds)
 empty_made k ds s e = made_where_fit k ds (ap (fit (fields k)) e ∙ empty_fit k s) (at_most (depth (branch k ds)) (ap (λ x. depth (branch k x)) e ∙ empty_depth k s))
 
-both : (a b : Bool) → a ≡ true → b ≡ true → (a && b) ≡ true
-both a b e f = rw (e, f) refl
-
 child_fits : (t : FieldType) (u v : Tree) → is_fair_type t ≡ true → ((w : Union) → is_fair w ≡ true → allowed w (kind_of u) ≡ true → allowed w (kind_of v) ≡ true) → (typed u ≡ true → typed v ≡ true)
     → fits t (child u) ≡ true → fits (eager_type t) (child v) ≡ true
 child_fits (field.Node w) u v r k h f = both (allowed w (kind_of v)) (typed v) (k w r (and_first (allowed w (kind_of u)) (typed u) f)) (h (and_second (allowed w (kind_of u)) (typed u) f))
@@ -151,35 +148,18 @@ each_fits : (t : FieldType) (d : Datum) (b : Bool) → is_scope d ≡ b → is_f
 each_fits t d true s r h f = scope_fits t d s r f
 each_fits t d false s r h f = h f
 
-absent_fits : (t : FieldType) → fits t absent ≡ true → fits (eager_type t) absent ≡ true
-absent_fits (field.Optional u) f = refl
-absent_fits _ f = cc
+-- what stands in no lazy field
+abbrev is_plain : Datum → Bool
+is_plain (child t) = false
+is_plain (listed ds) = false
+is_plain (window from to) = false
+is_plain d = true
 
-flag_fits : (t : FieldType) (b : Bool) → fits t (flag b) ≡ true → fits (eager_type t) (flag b) ≡ true
-flag_fits field.Bool b f = refl
-flag_fits _ b f = cc
-
-index_fits : (t : FieldType) (n : ℕ) → fits t (index n) ≡ true → fits (eager_type t) (index n) ≡ true
-index_fits field.Index n f = f
-index_fits _ n f = cc
-
-whole_fits : (t : FieldType) (n : ℕ) → fits t (whole n) ≡ true → fits (eager_type t) (whole n) ≡ true
-whole_fits field.Whole n f = f
-whole_fits _ n f = cc
-
-name_fits : (t : FieldType) (n : ℕ) → fits t (name n) ≡ true → fits (eager_type t) (name n) ≡ true
-name_fits field.Text n f = refl
-name_fits field.Name n f = refl
-name_fits field.Label n f = refl
-name_fits _ n f = cc
-
-no_name_fits : (t : FieldType) → fits t no_name ≡ true → fits (eager_type t) no_name ≡ true
-no_name_fits field.Label f = refl
-no_name_fits _ f = cc
-
-choice_fits : (t : FieldType) (n : ℕ) → fits t (choice n) ≡ true → fits (eager_type t) (choice n) ≡ true
-choice_fits (field.Choice e) n f = f
-choice_fits _ n f = cc
+plain_fits : (t : FieldType) (d : Datum) → is_plain d ≡ true → fits t d ≡ true → fits (eager_type t) d ≡ true
+plain_fits (field.Lazy u) (child t) p f = cc
+plain_fits (field.Lazy u) (window from to) p f = cc
+plain_fits (field.Lazy u) _ p f = cc
+plain_fits _ d p f = f
 
 kind_bare : (t : Tree) (w : Union) → is_fair w ≡ true → allowed w (kind_of t) ≡ true → allowed w (kind_of (bare t)) ≡ true
 kind_bare (branch k ds) w r h = allowed_eager w k r h
@@ -191,14 +171,8 @@ mutual
   pub bare_fits : (d : Datum) (t : FieldType) → is_fair_type t ≡ true → is_whole_at d ≡ true → fits t d ≡ true → fits (eager_type t) (bare_at d) ≡ true
   bare_fits (child u) t r w f = child_fits t u (bare u) r (kind_bare u) (bare_typed u w) f
   bare_fits (listed ds) t r w f = list_fits t ds (bare_in ds) (in_none ds) r (λ u holes q. bare_items ds u holes q w) f
-  bare_fits absent t r w f = absent_fits t f
-  bare_fits (flag b) t r w f = flag_fits t b f
-  bare_fits (index n) t r w f = index_fits t n f
-  bare_fits (whole n) t r w f = whole_fits t n f
-  bare_fits (name n) t r w f = name_fits t n f
-  bare_fits no_name t r w f = no_name_fits t f
-  bare_fits (choice n) t r w f = choice_fits t n f
   bare_fits (window m n) t r w f = cc
+  bare_fits d t r w f = plain_fits t d refl f
 
   pub bare_fit : (ds : Data) (ts : List FieldType) → list_all is_fair_type ts ≡ true → is_whole_in ds ≡ true → fit ts ds ≡ true → fit (map eager_type ts) (bare_in ds) ≡ true
   bare_fit none [] r w f = f

@@ -1,5 +1,6 @@
 -- Scopes in which only entries stand, as those of a well-typed tree and of an exact one.
-use Rattle.std.proofs.Common.{ℕ, List, [], ◌∷◌, ◌+◌, ◌≡◌, Bool, true, false, refl, ◌&&◌, ◌||◌, not, if◌then◌else◌, Option, None, Some}
+use Rattle.std.proofs.Common.{ℕ, List, [], ◌∷◌, ◌+◌, ◌≡◌, Bool, true, false, refl, ap, sym, ◌∙◌, ◌&&◌, ◌||◌, not, if◌then◌else◌, Option, None, Some}
+use Rattle.std.specs.List.{list_any}
 use Rattle.bast_schema.specs.declared.kind.Kind.{Kind}
 use Rattle.bast_schema.specs.declared.kind.Kind.TheVariants.{Null, AssertedScriptGlobalScope, AssertedVarScope, AssertedBlockScope, AssertedParameterScope, AssertedBoundNamesScope, AssertedDeclaredName, AssertedPositionalParameterName, AssertedRestParameterName, AssertedBoundName}
 use Rattle.bast_schema.specs.declared.kind.Union.{Union}
@@ -7,9 +8,11 @@ use Rattle.bast_schema.specs.declared.kind.Union.TheVariants.{ParameterName, One
 use Rattle.bast_schema.specs.declared.kind.FieldType.{FieldType}
 use Rattle.bast_schema.specs.declared.kind.FieldType.TheVariants as field
 use Rattle.bast_schema.specs.Fields.{fields}
-use Rattle.bast_schema.specs.Unions.{allowed}
+use Rattle.bast_schema.specs.Unions.{allowed, kinds_in}
+use Rattle.bast_schema.specs.Kinds.{same_kind}
+use Rattle.bast_schema.proofs.EachKind.{same_kind_true}
 use Rattle.bast_schema.specs.Tree.{Tree, branch, Datum, child, listed, Data, none, more, typed, fits, fit, items_fit, item_type, is_none, kind_of}
-use Rattle.bast_schema.proofs.Both.{and_first, and_second}
+use Rattle.bast_schema.proofs.Both.{and_first, and_second, both}
 use Rattle.scope_facts.specs.declared.names.Declared.{Declared}
 use Rattle.scope_facts.specs.declared.roles.Form.{Form}
 use Rattle.scope_facts.specs.declared.roles.Form.TheVariants as form
@@ -22,6 +25,7 @@ use Rattle.scope_facts.specs.Names.{bound, once, tops_in, lexicals_in, lexicals_
 use Rattle.scope_facts.specs.Entries.{declared_entries, bound_entries, rest_entries, place_entry, parameter_name, item_entries, list_entries, parameter_entries_by, parameter_entries_at, parameter_entries, entries, flags_by, is_simple}
 use Rattle.scope_facts.specs.Filled.{filled_scope, filled, filled_at, filled_in, filled_among}
 use Rattle.scope_facts.specs.Flagged.{with_flag, entries_by, flagged_scope, flagged, flagged_at, flagged_in, flagged_among}
+use Rattle.scope_facts.proofs.NamesKept.{Entered, all_entered}
 use Rattle.scope_facts.proofs.BareSame.{is_filled_scope, is_filled, is_flagged_scope, is_flagged}
 
 -- whether no node is among the values
@@ -74,9 +78,6 @@ abbrev mutual
   pub clean_in : Data → Bool
   clean_in none = true
   clean_in (more d ds) = (if is_scope d then clean_scope d else clean_at d) && clean_in ds
-
-both : (a b : Bool) → a ≡ true → b ≡ true → (a && b) ≡ true
-both a b e f = rw (e, f) refl
 
 -- entries declare nothing themselves
 
@@ -167,31 +168,40 @@ entry_leaves AssertedRestParameterName h = refl
 entry_leaves AssertedBoundName h = refl
 entry_leaves _ h = cc
 
+not_here : (q : Kind → Bool) (j k : Kind) (b : Bool) → same_kind j k ≡ b → q j ≡ false → (b ≡ false → q k ≡ false) → q k ≡ false
+not_here q j k true e h g = ap q (sym (same_kind_true j k e)) ∙ h
+not_here q j k false e h g = g refl
+
+or_first : (a b : Bool) → (a || b) ≡ false → a ≡ false
+or_first true b e = cc
+or_first false b e = refl
+
+or_second : (a b : Bool) → (a || b) ≡ false → b ≡ false
+or_second true b e = cc
+or_second false b e = e
+
+without : (a b : Bool) → (a || b) ≡ true → a ≡ false → b ≡ true
+without true b e f = cc
+without false b e f = e
+
+-- what is true of no kind of a list is not true of a kind in it
+pub none_of : (q : Kind → Bool) (js : List Kind) (k : Kind) → list_any (λ j. same_kind j k) js ≡ true → list_any q js ≡ false → q k ≡ false
+none_of q [] k h g = cc
+none_of q (j ∷ js) k h g = not_here q j k (same_kind j k) refl (or_first (q j) (list_any q js) g) (λ e. none_of q js k (without (same_kind j k) (list_any (λ i. same_kind i k) js) h e) (or_second (q j) (list_any q js) g))
+
+pub not_true : (b : Bool) → not b ≡ true → b ≡ false
+not_true true h = cc
+not_true false h = refl
+
+not_false : (b : Bool) → not b ≡ false → b ≡ true
+not_false true h = refl
+not_false false h = cc
+
 abbrev is_entry_union : Union → Bool
-is_entry_union ParameterName = true
-is_entry_union (One AssertedDeclaredName) = true
-is_entry_union (One AssertedBoundName) = true
-is_entry_union _ = false
-
-declared_allowed : (k : Kind) → allowed (One AssertedDeclaredName) k ≡ true → is_entry_kind k ≡ true
-declared_allowed AssertedDeclaredName a = refl
-declared_allowed _ a = cc
-
-bound_allowed : (k : Kind) → allowed (One AssertedBoundName) k ≡ true → is_entry_kind k ≡ true
-bound_allowed AssertedBoundName a = refl
-bound_allowed _ a = cc
-
-parameter_allowed : (k : Kind) → allowed ParameterName k ≡ true → is_entry_kind k ≡ true
-parameter_allowed AssertedPositionalParameterName a = refl
-parameter_allowed AssertedRestParameterName a = refl
-parameter_allowed _ a = cc
+is_entry_union u = not (list_any (λ k. not (is_entry_kind k)) (kinds_in u))
 
 entry_allowed : (u : Union) (k : Kind) → is_entry_union u ≡ true → allowed u k ≡ true → is_entry_kind k ≡ true
-entry_allowed ParameterName k e a = parameter_allowed k a
-entry_allowed (One AssertedDeclaredName) k e a = declared_allowed k a
-entry_allowed (One AssertedBoundName) k e a = bound_allowed k a
-entry_allowed (One _) k e a = cc
-entry_allowed _ k e a = cc
+entry_allowed u k e a = not_false (is_entry_kind k) (none_of (λ j. not (is_entry_kind j)) (kinds_in u) k a (not_true (list_any (λ j. not (is_entry_kind j)) (kinds_in u)) e))
 
 entry_fits : (u : Union) (d : Datum) → is_entry_union u ≡ true → fits (field.Node u) d ≡ true → is_entry_node d ≡ true
 entry_fits u (child (branch k fs)) e f =
@@ -276,59 +286,15 @@ mutual
 
 -- the scopes of an exact tree
 
-declared_are : (c : ℕ → Bool) (names : List Declared) → are_entries (entries_by c (declared_entries names)) ≡ true
-declared_are c [] = refl
-declared_are c (a ∷ names) = declared_are c names
-
-bound_are : (c : ℕ → Bool) (names : List ℕ) → are_entries (entries_by c (bound_entries names)) ≡ true
-bound_are c [] = refl
-bound_are c (n ∷ names) = bound_are c names
-
-rest_are : (c : ℕ → Bool) (names : List ℕ) → are_entries (entries_by c (rest_entries names)) ≡ true
-rest_are c [] = refl
-rest_are c (n ∷ names) = rest_are c names
-
-place_are : (c : ℕ → Bool) (i : ℕ) (o : Option ℕ) (others : Data) → are_entries (entries_by c others) ≡ true → are_entries (entries_by c (place_entry i o others)) ≡ true
-place_are c i None others h = h
-place_are c i (Some n) others h = h
-
-items_are : (c : ℕ → Bool) (i : ℕ) (items others : Data) → are_entries (entries_by c others) ≡ true → are_entries (entries_by c (item_entries i items others)) ≡ true
-items_are c i none others h = h
-items_are c i (more d items) others h = place_are c i (parameter_name d) (item_entries (i + 1) items others) (items_are c (i + 1) items others h)
-
-list_are : (c : ℕ → Bool) (fs : Data) → are_entries (entries_by c (list_entries fs)) ≡ true
-list_are c none = refl
-list_are c (more (listed items) rest) = items_are c 0 items (rest_entries (bound rest)) (rest_are c (bound rest))
-list_are c (more _ rest) = refl
-
-by_are : (c : ℕ → Bool) (f : Form) (fs : Data) (d : Datum) → are_entries (entries_by c (parameter_entries_by f fs d)) ≡ true
-by_are c form.Parameters fs d = list_are c fs
-by_are c _ fs d = place_are c 0 (parameter_name d) none refl
-
-at_are : (c : ℕ → Bool) (d : Datum) → are_entries (entries_by c (parameter_entries_at d)) ≡ true
-at_are c (child (branch k fs)) = by_are c (roles.form k) fs (child (branch k fs))
-at_are c _ = refl
-
-parameters_are : (c : ℕ → Bool) (after : Data) → are_entries (entries_by c (parameter_entries after)) ≡ true
-parameters_are c none = refl
-parameters_are c (more d ds) = at_are c d
-
-entries_are : (c : ℕ → Bool) (s : Shape) (names : List ℕ) (after : Data) → are_entries (entries_by c (entries s names after)) ≡ true
-entries_are c shape.Statements names after = declared_are c (once [] (tops_in after))
-entries_are c shape.Lexical names after = declared_are c (once [] (lexicals_in after))
-entries_are c shape.Parameters names after = parameters_are c after
-entries_are c shape.BoundName names after = bound_are c names
-entries_are c shape.Nothing names after = refl
+are_entered : (c : ℕ → Bool) → Entered (λ n. true) (λ es. are_entries (entries_by c es) ≡ true)
+are_entered c = record { nothing = refl; declared = λ a es n h. h; bound = λ n es q h. h; rest = λ n es q h. h; positional = λ i n es q h. h }
 
 flags_are : (b : Bool) (s : Shape) (simple : Bool) → only_entries (with_flag b (flags_by s simple)) ≡ true
 flags_are b shape.Parameters simple = refl
-flags_are b shape.Statements simple = refl
-flags_are b shape.Lexical simple = refl
-flags_are b shape.BoundName simple = refl
-flags_are b shape.Nothing simple = refl
+flags_are b _ simple = refl
 
 exact_scope_clean : (e : Option ℕ) (names : List ℕ) (d : Datum) (after behind : Data) → clean_scope (flagged_scope e (filled_scope names d after) behind) ≡ true
-exact_scope_clean e names (child (branch k ds)) after behind = rw (entries_are (λ x. crossed_in x behind) (shape_of k) names after, flags_are (evals_in e behind) (shape_of k) (is_simple after)) refl
+exact_scope_clean e names (child (branch k ds)) after behind = rw (all_entered (are_entered (λ x. crossed_in x behind)) (shape_of k) names after, flags_are (evals_in e behind) (shape_of k) (is_simple after)) refl
 exact_scope_clean e names _ after behind = refl
 
 exact_field_clean : (e : Option ℕ) (names : List ℕ) (d : Datum) (after behind : Data) (b : Bool) → is_scope d ≡ b → clean_at (flagged_at e (filled_at d)) ≡ true
@@ -343,7 +309,7 @@ exact_field_clean e names d after behind false s h =
 -- no list of a well-typed tree has a scope as an item
 
 abbrev pub takes_scope : Union → Bool
-takes_scope u = allowed u AssertedScriptGlobalScope || (allowed u AssertedVarScope || (allowed u AssertedBlockScope || (allowed u AssertedParameterScope || allowed u AssertedBoundNamesScope)))
+takes_scope u = list_any (λ k. is_scope_part (part k)) (kinds_in u)
 
 abbrev pub is_plain_list : FieldType → Bool
 is_plain_list (field.List u holes filled) = not (takes_scope u)
@@ -357,33 +323,8 @@ pub plain_lists : (k : Kind) → all_plain_lists (fields k) ≡ true
 plain_lists Null = refl
 plain_lists _ = refl
 
-or_left : (a b : Bool) → a ≡ true → (a || b) ≡ true
-or_left a b e = rw (e) refl
-
-or_right : (a b : Bool) → b ≡ true → (a || b) ≡ true
-or_right true b e = refl
-or_right false b e = e
-
-not_both : (a b : Bool) → not a ≡ true → a ≡ true → true ≡ b
-not_both true b e f = cc
-not_both false b e f = cc
-
 no_scope_kind : (u : Union) (k : Kind) → not (takes_scope u) ≡ true → allowed u k ≡ true → is_scope_part (part k) ≡ false
-no_scope_kind u AssertedScriptGlobalScope p a = not_both (takes_scope u) false p (or_left (allowed u AssertedScriptGlobalScope) (allowed u AssertedVarScope || (allowed u AssertedBlockScope || (allowed u AssertedParameterScope || allowed u AssertedBoundNamesScope))) a)
-no_scope_kind u AssertedVarScope p a = not_both (takes_scope u) false p (or_right (allowed u AssertedScriptGlobalScope) (allowed u AssertedVarScope || (allowed u AssertedBlockScope || (allowed u AssertedParameterScope || allowed u AssertedBoundNamesScope)))
-    (or_left (allowed u AssertedVarScope) (allowed u AssertedBlockScope || (allowed u AssertedParameterScope || allowed u AssertedBoundNamesScope)) a))
-no_scope_kind u AssertedBlockScope p a = not_both (takes_scope u) false p (or_right (allowed u AssertedScriptGlobalScope) (allowed u AssertedVarScope || (allowed u AssertedBlockScope || (allowed u AssertedParameterScope || allowed u AssertedBoundNamesScope)))
-    (or_right (allowed u AssertedVarScope) (allowed u AssertedBlockScope || (allowed u AssertedParameterScope || allowed u AssertedBoundNamesScope))
-    (or_left (allowed u AssertedBlockScope) (allowed u AssertedParameterScope || allowed u AssertedBoundNamesScope) a)))
-no_scope_kind u AssertedParameterScope p a = not_both (takes_scope u) false p (or_right (allowed u AssertedScriptGlobalScope) (allowed u AssertedVarScope || (allowed u AssertedBlockScope || (allowed u AssertedParameterScope || allowed u AssertedBoundNamesScope)))
-    (or_right (allowed u AssertedVarScope) (allowed u AssertedBlockScope || (allowed u AssertedParameterScope || allowed u AssertedBoundNamesScope))
-    (or_right (allowed u AssertedBlockScope) (allowed u AssertedParameterScope || allowed u AssertedBoundNamesScope)
-    (or_left (allowed u AssertedParameterScope) (allowed u AssertedBoundNamesScope) a))))
-no_scope_kind u AssertedBoundNamesScope p a = not_both (takes_scope u) false p (or_right (allowed u AssertedScriptGlobalScope) (allowed u AssertedVarScope || (allowed u AssertedBlockScope || (allowed u AssertedParameterScope || allowed u AssertedBoundNamesScope)))
-    (or_right (allowed u AssertedVarScope) (allowed u AssertedBlockScope || (allowed u AssertedParameterScope || allowed u AssertedBoundNamesScope))
-    (or_right (allowed u AssertedBlockScope) (allowed u AssertedParameterScope || allowed u AssertedBoundNamesScope)
-    (or_right (allowed u AssertedParameterScope) (allowed u AssertedBoundNamesScope) a))))
-no_scope_kind u _ p a = refl
+no_scope_kind u k p a = none_of (λ j. is_scope_part (part j)) (kinds_in u) k a (not_true (takes_scope u) p)
 
 item_allowed : (u : Union) (holes : Bool) (t : Tree) → fits (item_type u holes) (child t) ≡ true → allowed u (kind_of t) ≡ true
 item_allowed u true t f = and_first (allowed u (kind_of t)) (typed t) f

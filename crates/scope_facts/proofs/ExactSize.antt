@@ -15,7 +15,9 @@ use Rattle.bast_schema.specs.Counts.{size, size_at, size_in}
 use Rattle.bast_schema.specs.Tree.{Tree, branch, Datum, child, listed, flag, name, Data, none, more, typed, fits, fit, items_fit, item_type, is_none, kind_of}
 use Rattle.bast_schema.proofs.Both.{and_first, and_second}
 use Rattle.bast_schema.proofs.EachKind.{same_kind_true}
+use Rattle.scope_facts.proofs.Clean.{none_of, not_true, child_typed}
 use Rattle.scope_facts.proofs.NamesOfBare.{scope_form}
+use Rattle.scope_facts.proofs.FlaggedTyped.{size_same}
 use Rattle.scope_facts.proofs.Sizes.{size_at_positive}
 use Rattle.scope_facts.specs.declared.names.Declared.{Declared}
 use Rattle.scope_facts.specs.declared.names.NameKind.{NameKind}
@@ -26,11 +28,10 @@ use Rattle.scope_facts.specs.declared.roles.Shape.{Shape}
 use Rattle.scope_facts.specs.declared.roles.Shape.TheVariants as shape
 use Rattle.scope_facts.specs.Roles as roles
 use Rattle.scope_facts.specs.Roles.{shape_of, part, is_scope_part}
-use Rattle.scope_facts.specs.Uses.{is_scope, first_name, crossed_in, evals_in}
+use Rattle.scope_facts.specs.Uses.{is_scope, first_name}
 use Rattle.scope_facts.specs.Names.{with_kind, binding_name, bound_at, bound, bound_below_at, bound_below, declarators, lexical_kind, is_var_head, head_kind, vars_by, vars, vars_at, vars_in, lexicals_by, lexicals, lexicals_at, lexicals_in, tops_by, tops_at, tops_among, tops_in, same, once}
 use Rattle.scope_facts.specs.Entries.{declared_entries, bound_entries, rest_entries, place_entry, item_entries, list_entries, parameter_entries_by, parameter_entries_at, parameter_entries, is_binding, entries, flags_by, is_simple}
 use Rattle.scope_facts.specs.Filled.{filled_scope, filled, filled_at, filled_in, filled_among}
-use Rattle.scope_facts.specs.Flagged.{with_flag, holds_of, entry_by, entries_by, fields_by, scope_by, flagged_scope, flagged, flagged_at, flagged_in, flagged_among}
 use Rattle.scope_facts.specs.Exact.{exact, eval_name}
 
 -- how many names a value binds itself
@@ -200,46 +201,16 @@ abbrev at_most_one : (Kind → Bool) → List FieldType → Bool
 at_most_one q [] = true
 at_most_one q (t ∷ ts) = if may q t then no q ts else at_most_one q ts
 
-not_here : (q : Kind → Bool) (j k : Kind) (b : Bool) → same_kind j k ≡ b → q j ≡ false → (b ≡ false → q k ≡ false) → q k ≡ false
-not_here q j k true e h g = ap q (sym (same_kind_true j k e)) ∙ h
-not_here q j k false e h g = g refl
-
-or_first : (a b : Bool) → (a || b) ≡ false → a ≡ false
-or_first true b e = cc
-or_first false b e = refl
-
-or_second : (a b : Bool) → (a || b) ≡ false → b ≡ false
-or_second true b e = cc
-or_second false b e = e
-
-without : (a b : Bool) → (a || b) ≡ true → a ≡ false → b ≡ true
-without true b e f = cc
-without false b e f = e
-
-none_of : (q : Kind → Bool) (js : List Kind) (k : Kind) → list_any (λ j. same_kind j k) js ≡ true → list_any q js ≡ false → q k ≡ false
-none_of q [] k h g = cc
-none_of q (j ∷ js) k h g = not_here q j k (same_kind j k) refl (or_first (q j) (list_any q js) g) (λ e. none_of q js k (without (same_kind j k) (list_any (λ i. same_kind i k) js) h e) (or_second (q j) (list_any q js) g))
-
 never : (q : Kind → Bool) (t : FieldType) (u : Tree) → fits t (child u) ≡ true → may q t ≡ false → q (kind_of u) ≡ false
 never q (field.Node w) u h g = none_of q (kinds_in w) (kind_of u) (and_first (allowed w (kind_of u)) (typed u) h) g
 never q (field.Optional w) u h g = none_of q (kinds_in w) (kind_of u) (and_first (allowed w (kind_of u)) (typed u) h) g
 never q (field.Lazy w) u h g = none_of q (kinds_in w) (kind_of u) (and_first (allowed w (kind_of u)) (typed u) h) g
 never q _ u h g = cc
 
-typed_child : (t : FieldType) (u : Tree) → fits t (child u) ≡ true → typed u ≡ true
-typed_child (field.Node w) u h = and_second (allowed w (kind_of u)) (typed u) h
-typed_child (field.Optional w) u h = and_second (allowed w (kind_of u)) (typed u) h
-typed_child (field.Lazy w) u h = and_second (allowed w (kind_of u)) (typed u) h
-typed_child _ u h = cc
-
 listed_by : (q : Kind → Bool) (P : Type 0) (t : FieldType) (es : Data) → fits t (listed es) ≡ true → may q t ≡ false → ((u : Union) (holes : Bool) → items_fit u holes es ≡ true → may q (item_type u holes) ≡ false → P) → P
 listed_by q P (field.List u true nonempty) es h g go = go u true (and_second (not nonempty || not (is_none es)) (items_fit u true es) h) g
 listed_by q P (field.List u false nonempty) es h g go = go u false (and_second (not nonempty || not (is_none es)) (items_fit u false es) h) g
 listed_by q P _ es h g go = cc
-
-not_true : (b : Bool) → not b ≡ true → b ≡ false
-not_true true h = cc
-not_true false h = refl
 
 -- a sum over values, each with those after it, to which only values of certain kinds add
 
@@ -315,135 +286,88 @@ one_bound ts ds h g = omega (arith, bound_total ds, total_one is_binder (λ d af
 
 -- the entries that the scopes of a shape get
 
-abbrev is_statements : Shape → Bool
-is_statements shape.Statements = true
-is_statements _ = false
+abbrev is_shape : Shape → Shape → Bool
+is_shape shape.Statements shape.Statements = true
+is_shape shape.Lexical shape.Lexical = true
+is_shape shape.Parameters shape.Parameters = true
+is_shape shape.BoundName shape.BoundName = true
+is_shape _ _ = false
 
-abbrev is_lexical : Shape → Bool
-is_lexical shape.Lexical = true
-is_lexical _ = false
+-- whether a kind is a scope of a shape
+abbrev of_shape : Shape → Kind → Bool
+of_shape s k = is_shape s (shape_of k)
 
-abbrev is_parameters : Shape → Bool
-is_parameters shape.Parameters = true
-is_parameters _ = false
-
-abbrev is_bound_name : Shape → Bool
-is_bound_name shape.BoundName = true
-is_bound_name _ = false
-
--- whether a kind is a scope of such a shape
-abbrev of_shape : (Shape → Bool) → Kind → Bool
-of_shape q k = q (shape_of k)
-
--- how many values the entries of a scope of such a shape have
-abbrev made_at : (Shape → Bool) → List ℕ → Datum → Data → ℕ
-made_at q names (child (branch k es)) after = if q (shape_of k) then size_in (entries (shape_of k) names after) else 0
-made_at q names d after = 0
+-- how many values the entries of a scope of a shape have
+abbrev made_at : Shape → List ℕ → Datum → Data → ℕ
+made_at s names (child (branch k es)) after = if is_shape s (shape_of k) then size_in (entries s names after) else 0
+made_at s names d after = 0
 
 -- the same of all such scopes among the fields of a node whose values bind these names
-abbrev made : (Shape → Bool) → List ℕ → Data → ℕ
-made q names ds = total (made_at q names) ds
+abbrev made : Shape → List ℕ → Data → ℕ
+made s names ds = total (made_at s names) ds
 
 if_not : (b : Bool) (n : ℕ) → b ≡ false → (if b then n else 0) ≡ 0
 if_not true n h = cc
 if_not false n h = refl
 
-if_most : (b : Bool) (n m : ℕ) → (b ≡ true → n ≤ m) → (if b then n else 0) ≤ m
-if_most true n m h = h refl
+if_most : (b : Bool) (n m : ℕ) → n ≤ m → (if b then n else 0) ≤ m
+if_most true n m h = h
 if_most false n m h = omega arith
 
-made_only : (q : Shape → Bool) (names : List ℕ) → Only (of_shape q) (made_at q names)
-made_only q names = record { other = other_made }
+made_only : (s : Shape) (names : List ℕ) → Only (of_shape s) (made_at s names)
+made_only s names = record { other = other_made }
   where
-    other_made : (t : FieldType) (d : Datum) (after : Data) → fits t d ≡ true → may (of_shape q) t ≡ false → made_at q names d after ≡ 0
-    other_made t (child (branch k es)) after h g = if_not (q (shape_of k)) (size_in (entries (shape_of k) names after)) (never (of_shape q) t (branch k es) h g)
+    other_made : (t : FieldType) (d : Datum) (after : Data) → fits t d ≡ true → may (of_shape s) t ≡ false → made_at s names d after ≡ 0
+    other_made t (child (branch k es)) after h g = if_not (is_shape s (shape_of k)) (size_in (entries s names after)) (never (of_shape s) t (branch k es) h g)
     other_made t _ after h g = refl
 
-made_bounds : (q : Shape → Bool) (names : List ℕ) (m : Data → ℕ) → ((s : Shape) (after : Data) → q s ≡ true → size_in (entries s names after) ≤ m after) → ((d : Datum) (after : Data) → m after ≤ m (more d after)) → Bounds (made_at q names) m
-made_bounds q names m h g = record { each = each_made; grows = g }
+-- how many they have at most
+abbrev most : Shape → List ℕ → Data → ℕ
+most shape.Statements names ds = 4 * (length (vars_in ds) + length (lexicals_in ds))
+most shape.Lexical names ds = 4 * length (lexicals_in ds)
+most shape.Parameters names ds = 4 * own_in ds
+most shape.BoundName names ds = 4 * length names
+most shape.Nothing names ds = 0
+
+most_size : (s : Shape) (names : List ℕ) (after : Data) → size_in (entries s names after) ≤ most s names after
+most_size shape.Statements names after = omega (arith, declared_size (once [] (tops_in after)), once_shorter (tops_in after) [], tops_in_up after)
+most_size shape.Lexical names after = omega (arith, declared_size (once [] (lexicals_in after)), once_shorter (lexicals_in after) [])
+most_size shape.Parameters names after = parameters_size after
+most_size shape.BoundName names after = bound_size names
+most_size shape.Nothing names after = omega arith
+
+most_grows : (s : Shape) (names : List ℕ) (d : Datum) (after : Data) → most s names after ≤ most s names (more d after)
+most_grows shape.Statements names d after = omega (arith, length-append (vars_at d) (vars_in after), length-append (lexicals_at d) (lexicals_in after))
+most_grows shape.Lexical names d after = omega (arith, length-append (lexicals_at d) (lexicals_in after))
+most_grows _ names d after = omega arith
+
+made_bounds : (s : Shape) (names : List ℕ) → Bounds (made_at s names) (most s names)
+made_bounds s names = record { each = each_made; grows = most_grows s names }
   where
-    each_made : (d : Datum) (after : Data) → made_at q names d after ≤ m after
-    each_made (child (branch k es)) after = if_most (q (shape_of k)) (size_in (entries (shape_of k) names after)) (m after) (h (shape_of k) after)
+    each_made : (d : Datum) (after : Data) → made_at s names d after ≤ most s names after
+    each_made (child (branch k es)) after = if_most (is_shape s (shape_of k)) (size_in (entries s names after)) (most s names after) (most_size s names after)
     each_made _ after = omega arith
 
-made_none : (q : Shape → Bool) (names : List ℕ) (ts : List FieldType) (ds : Data) → fit ts ds ≡ true → no (of_shape q) ts ≡ true → made q names ds ≡ 0
-made_none q names ts ds h g = total_none (of_shape q) (made_at q names) (made_only q names) ts ds h g
+-- whether at most one of the fields may be a scope of a shape, or none
+abbrev few : Bool → Shape → List FieldType → Bool
+few b s ts = if b then at_most_one (of_shape s) ts else no (of_shape s) ts
 
-abbrev statements_most : Data → ℕ
-statements_most ds = 4 * (length (vars_in ds) + length (lexicals_in ds))
-
-statements_bound : (names : List ℕ) → Bounds (made_at is_statements names) statements_most
-statements_bound names = made_bounds is_statements names statements_most each_size grows_size
-  where
-    each_size : (s : Shape) (after : Data) → is_statements s ≡ true → size_in (entries s names after) ≤ statements_most after
-    each_size shape.Statements after h = omega (arith, declared_size (once [] (tops_in after)), once_shorter (tops_in after) [], tops_in_up after)
-    each_size _ after h = cc
-
-    grows_size : (d : Datum) (after : Data) → statements_most after ≤ statements_most (more d after)
-    grows_size d after = omega (arith, length-append (vars_at d) (vars_in after), length-append (lexicals_at d) (lexicals_in after))
-
-abbrev lexical_most : Data → ℕ
-lexical_most ds = 4 * length (lexicals_in ds)
-
-lexical_bound : (names : List ℕ) → Bounds (made_at is_lexical names) lexical_most
-lexical_bound names = made_bounds is_lexical names lexical_most each_size grows_size
-  where
-    each_size : (s : Shape) (after : Data) → is_lexical s ≡ true → size_in (entries s names after) ≤ lexical_most after
-    each_size shape.Lexical after h = omega (arith, declared_size (once [] (lexicals_in after)), once_shorter (lexicals_in after) [])
-    each_size _ after h = cc
-
-    grows_size : (d : Datum) (after : Data) → lexical_most after ≤ lexical_most (more d after)
-    grows_size d after = omega (arith, length-append (lexicals_at d) (lexicals_in after))
-
-abbrev parameters_most : Data → ℕ
-parameters_most ds = 4 * own_in ds
-
-parameters_bound : (names : List ℕ) → Bounds (made_at is_parameters names) parameters_most
-parameters_bound names = made_bounds is_parameters names parameters_most each_size grows_size
-  where
-    each_size : (s : Shape) (after : Data) → is_parameters s ≡ true → size_in (entries s names after) ≤ parameters_most after
-    each_size shape.Parameters after h = parameters_size after
-    each_size _ after h = cc
-
-    grows_size : (d : Datum) (after : Data) → parameters_most after ≤ parameters_most (more d after)
-    grows_size d after = omega arith
-
-bound_name_bound : (names : List ℕ) → Bounds (made_at is_bound_name names) (λ ds. 4 * length names)
-bound_name_bound names = made_bounds is_bound_name names (λ ds. 4 * length names) each_size grows_size
-  where
-    each_size : (s : Shape) (after : Data) → is_bound_name s ≡ true → size_in (entries s names after) ≤ 4 * length names
-    each_size shape.BoundName after h = bound_size names
-    each_size _ after h = cc
-
-    grows_size : (d : Datum) (after : Data) → 4 * length names ≤ 4 * length names
-    grows_size d after = omega arith
-
-made_statements : (names : List ℕ) (ts : List FieldType) (ds : Data) → fit ts ds ≡ true → at_most_one (of_shape is_statements) ts ≡ true → made is_statements names ds ≤ 4 * (length (vars_in ds) + length (lexicals_in ds))
-made_statements names ts ds h g = total_one (of_shape is_statements) (made_at is_statements names) statements_most (made_only is_statements names) (statements_bound names) ts ds h g
-
-made_lexical : (names : List ℕ) (ts : List FieldType) (ds : Data) → fit ts ds ≡ true → at_most_one (of_shape is_lexical) ts ≡ true → made is_lexical names ds ≤ 4 * length (lexicals_in ds)
-made_lexical names ts ds h g = total_one (of_shape is_lexical) (made_at is_lexical names) lexical_most (made_only is_lexical names) (lexical_bound names) ts ds h g
-
-made_parameters : (names : List ℕ) (ts : List FieldType) (ds : Data) → fit ts ds ≡ true → at_most_one (of_shape is_parameters) ts ≡ true → made is_parameters names ds ≤ 4 * own_in ds
-made_parameters names ts ds h g = total_one (of_shape is_parameters) (made_at is_parameters names) parameters_most (made_only is_parameters names) (parameters_bound names) ts ds h g
-
-made_bound_name : (names : List ℕ) (ts : List FieldType) (ds : Data) → fit ts ds ≡ true → at_most_one (of_shape is_bound_name) ts ≡ true → made is_bound_name names ds ≤ 4 * length names
-made_bound_name names ts ds h g = total_one (of_shape is_bound_name) (made_at is_bound_name names) (λ es. 4 * length names) (made_only is_bound_name names) (bound_name_bound names) ts ds h g
+made_most : (b : Bool) (s : Shape) (names : List ℕ) (ts : List FieldType) (ds : Data) → fit ts ds ≡ true → few b s ts ≡ true → made s names ds ≤ (if b then most s names ds else 0)
+made_most true s names ts ds h g = total_one (of_shape s) (made_at s names) (most s names) (made_only s names) (made_bounds s names) ts ds h g
+made_most false s names ts ds h g = omega (arith, total_none (of_shape s) (made_at s names) (made_only s names) ts ds h g)
 
 -- the same of every shape
 abbrev all_at : List ℕ → Datum → Data → ℕ
-all_at names d after = made_at is_statements names d after + made_at is_lexical names d after + made_at is_parameters names d after + made_at is_bound_name names d after
+all_at names d after = made_at shape.Statements names d after + made_at shape.Lexical names d after + made_at shape.Parameters names d after + made_at shape.BoundName names d after
 
 abbrev all_made : List ℕ → Data → ℕ
-all_made names ds = made is_statements names ds + made is_lexical names ds + made is_parameters names ds + made is_bound_name names ds
+all_made names ds = made shape.Statements names ds + made shape.Lexical names ds + made shape.Parameters names ds + made shape.BoundName names ds
 
 entries_split : (s : Shape) (names : List ℕ) (after : Data)
-    → size_in (entries s names after) ≤ (if is_statements s then size_in (entries s names after) else 0) + (if is_lexical s then size_in (entries s names after) else 0) + (if is_parameters s then size_in (entries s names after) else 0) + (if is_bound_name s then size_in (entries s names after) else 0)
-entries_split shape.Statements names after = omega arith
-entries_split shape.Lexical names after = omega arith
-entries_split shape.Parameters names after = omega arith
-entries_split shape.BoundName names after = omega arith
+    → size_in (entries s names after) ≤ (if is_shape shape.Statements s then size_in (entries shape.Statements names after) else 0) + (if is_shape shape.Lexical s then size_in (entries shape.Lexical names after) else 0)
+    + (if is_shape shape.Parameters s then size_in (entries shape.Parameters names after) else 0) + (if is_shape shape.BoundName s then size_in (entries shape.BoundName names after) else 0)
 entries_split shape.Nothing names after = omega arith
+entries_split _ names after = omega arith
 
 flags_size : (s : Shape) (b : Bool) → size_in (flags_by s b) ≤ 2
 flags_size shape.Parameters b = omega arith
@@ -472,16 +396,21 @@ abbrev is_one_name : List FieldType → Bool
 is_one_name (field.Name ∷ []) = true
 is_one_name _ = false
 
--- whether no field may be a scope
-abbrev has_no_scope : List FieldType → Bool
-has_no_scope ts = no (of_shape is_statements) ts && (no (of_shape is_lexical) ts && (no (of_shape is_parameters) ts && no (of_shape is_bound_name) ts))
+-- the shapes of the scopes that a node of a form may have
+abbrev takes : Form → Shape → Bool
+takes form.Inside shape.Statements = true
+takes form.Inside shape.Parameters = true
+takes form.Plain shape.Lexical = true
+takes form.Plain shape.BoundName = true
+takes _ _ = false
+
+abbrev scopes_few : Form → List FieldType → Bool
+scopes_few f ts = few (takes f shape.Statements) shape.Statements ts && (few (takes f shape.Lexical) shape.Lexical ts && (few (takes f shape.Parameters) shape.Parameters ts && few (takes f shape.BoundName) shape.BoundName ts))
 
 -- whether the scopes among fields of these types take each name at most once, and none that goes on to the nodes around
 abbrev scopes_apart : Form → List FieldType → Bool
-scopes_apart form.Inside ts = at_most_one (of_shape is_statements) ts && (no (of_shape is_lexical) ts && (at_most_one (of_shape is_parameters) ts && no (of_shape is_bound_name) ts))
-scopes_apart form.Plain ts = no (of_shape is_statements) ts && (at_most_one (of_shape is_lexical) ts && (no (of_shape is_parameters) ts && at_most_one (of_shape is_bound_name) ts))
 scopes_apart form.Binding ts = is_one_name ts
-scopes_apart _ ts = has_no_scope ts
+scopes_apart f ts = scopes_few f ts
 
 -- whether at most one of the values binds a name, where none but these takes the names from there
 abbrev binds_one : Form → List FieldType → Bool
@@ -507,44 +436,18 @@ Fields names ds = size_in (filled_in names ds) + 4 * up_in ds + 2 * length (boun
 abbrev Node : Form → Data → Type 0
 Node f ds = 1 + size_in (filled_in (bound ds) ds) + 4 * (length (vars_by f ds (vars_in ds)) + length (lexicals_by f ds (lexicals_in ds)) + own_by f ds (own_in ds)) + 2 * length (option_to_list (binding_name f ds)) ≤ 4 * (1 + size_in ds)
 
-inside_step : (ts : List FieldType) (ds : Data) → fit ts ds ≡ true → at_most_one is_binder ts ≡ true → scopes_apart form.Inside ts ≡ true → Fields (bound ds) ds → Node form.Inside ds
-inside_step ts ds h one g f =
-    let more_tests : (no (of_shape is_lexical) ts && (at_most_one (of_shape is_parameters) ts && no (of_shape is_bound_name) ts)) ≡ true = and_second (at_most_one (of_shape is_statements) ts) _ g
-    in let last_tests : (at_most_one (of_shape is_parameters) ts && no (of_shape is_bound_name) ts) ≡ true = and_second (no (of_shape is_lexical) ts) _ more_tests
+all_most : (f : Form) (names : List ℕ) (ts : List FieldType) (ds : Data) → fit ts ds ≡ true → scopes_few f ts ≡ true
+    → all_made names ds ≤ (if takes f shape.Statements then most shape.Statements names ds else 0) + (if takes f shape.Lexical then most shape.Lexical names ds else 0)
+    + (if takes f shape.Parameters then most shape.Parameters names ds else 0) + (if takes f shape.BoundName then most shape.BoundName names ds else 0)
+all_most f names ts ds h g =
+    let more_tests : (few (takes f shape.Lexical) shape.Lexical ts && (few (takes f shape.Parameters) shape.Parameters ts && few (takes f shape.BoundName) shape.BoundName ts)) ≡ true = and_second (few (takes f shape.Statements) shape.Statements ts) _ g
+    in let last_tests : (few (takes f shape.Parameters) shape.Parameters ts && few (takes f shape.BoundName) shape.BoundName ts) ≡ true = and_second (few (takes f shape.Lexical) shape.Lexical ts) _ more_tests
     in omega (
       arith,
-      one_bound ts ds h one,
-      bound_own ds,
-      made_statements (bound ds) ts ds h (and_first (at_most_one (of_shape is_statements) ts) _ g),
-      made_none is_lexical (bound ds) ts ds h (and_first (no (of_shape is_lexical) ts) _ more_tests),
-      made_parameters (bound ds) ts ds h (and_first (at_most_one (of_shape is_parameters) ts) _ last_tests),
-      made_none is_bound_name (bound ds) ts ds h (and_second (at_most_one (of_shape is_parameters) ts) _ last_tests),
-    )
-
-plain_step : (ts : List FieldType) (ds : Data) → fit ts ds ≡ true → at_most_one is_binder ts ≡ true → scopes_apart form.Plain ts ≡ true → Fields (bound ds) ds → Node form.Plain ds
-plain_step ts ds h one g f =
-    let more_tests : (at_most_one (of_shape is_lexical) ts && (no (of_shape is_parameters) ts && at_most_one (of_shape is_bound_name) ts)) ≡ true = and_second (no (of_shape is_statements) ts) _ g
-    in let last_tests : (no (of_shape is_parameters) ts && at_most_one (of_shape is_bound_name) ts) ≡ true = and_second (at_most_one (of_shape is_lexical) ts) _ more_tests
-    in omega (
-      arith,
-      one_bound ts ds h one,
-      bound_own ds,
-      made_none is_statements (bound ds) ts ds h (and_first (no (of_shape is_statements) ts) _ g),
-      made_lexical (bound ds) ts ds h (and_first (at_most_one (of_shape is_lexical) ts) _ more_tests),
-      made_none is_parameters (bound ds) ts ds h (and_first (no (of_shape is_parameters) ts) _ last_tests),
-      made_bound_name (bound ds) ts ds h (and_second (no (of_shape is_parameters) ts) _ last_tests),
-    )
-
-nothing_made : (names : List ℕ) (ts : List FieldType) (ds : Data) → fit ts ds ≡ true → has_no_scope ts ≡ true → all_made names ds ≡ 0
-nothing_made names ts ds h g =
-    let more_tests : (no (of_shape is_lexical) ts && (no (of_shape is_parameters) ts && no (of_shape is_bound_name) ts)) ≡ true = and_second (no (of_shape is_statements) ts) _ g
-    in let last_tests : (no (of_shape is_parameters) ts && no (of_shape is_bound_name) ts) ≡ true = and_second (no (of_shape is_lexical) ts) _ more_tests
-    in omega (
-      arith,
-      made_none is_statements names ts ds h (and_first (no (of_shape is_statements) ts) _ g),
-      made_none is_lexical names ts ds h (and_first (no (of_shape is_lexical) ts) _ more_tests),
-      made_none is_parameters names ts ds h (and_first (no (of_shape is_parameters) ts) _ last_tests),
-      made_none is_bound_name names ts ds h (and_second (no (of_shape is_parameters) ts) _ last_tests),
+      made_most (takes f shape.Statements) shape.Statements names ts ds h (and_first (few (takes f shape.Statements) shape.Statements ts) _ g),
+      made_most (takes f shape.Lexical) shape.Lexical names ts ds h (and_first (few (takes f shape.Lexical) shape.Lexical ts) _ more_tests),
+      made_most (takes f shape.Parameters) shape.Parameters names ts ds h (and_first (few (takes f shape.Parameters) shape.Parameters ts) _ last_tests),
+      made_most (takes f shape.BoundName) shape.BoundName names ts ds h (and_second (few (takes f shape.Parameters) shape.Parameters ts) _ last_tests),
     )
 
 name_step : (ds : Data) → fit (field.Name ∷ []) ds ≡ true → Node form.Binding ds
@@ -562,15 +465,15 @@ head_names true kind ns = omega arith
 head_names false kind ns = omega (arith, with_kind_length kind ns)
 
 names_step : (f : Form) (ts : List FieldType) (ds : Data) → fit ts ds ≡ true → binds_one f ts ≡ true → scopes_apart f ts ≡ true → Fields (bound ds) ds → Node f ds
-names_step form.Inside ts ds h one g f = inside_step ts ds h one g f
-names_step form.Plain ts ds h one g f = plain_step ts ds h one g f
+names_step form.Inside ts ds h one g f = omega (arith, all_most form.Inside (bound ds) ts ds h g, one_bound ts ds h one, bound_own ds)
+names_step form.Plain ts ds h one g f = omega (arith, all_most form.Plain (bound ds) ts ds h g, one_bound ts ds h one, bound_own ds)
 names_step form.Binding ts ds h one g f = name_step ds (subst (λ us. fit us ds ≡ true) (one_name ts g) h)
-names_step form.Parameters ts ds h one g f = omega (arith, nothing_made (bound ds) ts ds h g)
-names_step form.VarStatement ts ds h one g f = omega (arith, nothing_made (bound ds) ts ds h g, one_bound ts ds h one, declarators_own ds)
-names_step form.LexicalStatement ts ds h one g f = omega (arith, nothing_made (bound ds) ts ds h g, one_bound ts ds h one, declarators_own ds, with_kind_length (lexical_kind ds) (declarators ds))
-names_step form.FunctionStatement ts ds h one g f = omega (arith, nothing_made (bound ds) ts ds h g, one_bound ts ds h one, bound_own ds, with_kind_length Lexical (bound ds))
-names_step form.Head ts ds h one g f = omega (arith, nothing_made (bound ds) ts ds h g, one_bound ts ds h one, bound_own ds, head_names (is_var_head ds) (head_kind ds) (bound ds))
-names_step form.Case ts ds h one g f = omega (arith, nothing_made (bound ds) ts ds h g, one_bound ts ds h one, bound_own ds)
+names_step form.Parameters ts ds h one g f = omega (arith, all_most form.Parameters (bound ds) ts ds h g)
+names_step form.VarStatement ts ds h one g f = omega (arith, all_most form.VarStatement (bound ds) ts ds h g, one_bound ts ds h one, declarators_own ds)
+names_step form.LexicalStatement ts ds h one g f = omega (arith, all_most form.LexicalStatement (bound ds) ts ds h g, one_bound ts ds h one, declarators_own ds, with_kind_length (lexical_kind ds) (declarators ds))
+names_step form.FunctionStatement ts ds h one g f = omega (arith, all_most form.FunctionStatement (bound ds) ts ds h g, one_bound ts ds h one, bound_own ds, with_kind_length Lexical (bound ds))
+names_step form.Head ts ds h one g f = omega (arith, all_most form.Head (bound ds) ts ds h g, one_bound ts ds h one, bound_own ds, head_names (is_var_head ds) (head_kind ds) (bound ds))
+names_step form.Case ts ds h one g f = omega (arith, all_most form.Case (bound ds) ts ds h g, one_bound ts ds h one, bound_own ds)
 
 item_part : (ds : Data) (d : Datum) → size_at (filled_at d) + 4 * up_at d + 2 * binds_at d ≤ 4 * size_at d → size_in (filled_among ds) + 4 * up_in ds ≤ 4 * size_in ds → size_in (filled_among (more d ds)) + 4 * up_in (more d ds) ≤ 4 * size_in (more d ds)
 item_part ds d h g = omega (arith, up_more d ds)
@@ -587,7 +490,7 @@ mutual
       (fields_small (bound ds) ds (fields k) (and_first (no is_script (fields k)) (binds_one (roles.form k) (fields k) && scopes_apart (roles.form k) (fields k)) (each_apart k s)) h)
 
   field_small : (d : Datum) (t : FieldType) → may is_script t ≡ false → fits t d ≡ true → size_at (filled_at d) + 4 * up_at d + 2 * binds_at d ≤ 4 * size_at d
-  field_small (child u) t s h = node_small u (never is_script t u h s) (typed_child t u h)
+  field_small (child u) t s h = node_small u (never is_script t u h s) (child_typed t u h)
   field_small (listed es) t s h = let g : size_in (filled_among es) + 4 * up_in es ≤ 4 * size_in es = listed_by is_script (size_in (filled_among es) + 4 * up_in es ≤ 4 * size_in es) t es h s (λ u holes f r. items_small es u holes r f) in omega arith
   field_small _ t s h = omega arith
 
@@ -608,10 +511,10 @@ script_small : (ds : Data) → fit (fields Script) ds ≡ true → size (filled 
 script_small ds h = omega (
   arith,
   fields_small (bound ds) ds (fields Script) refl h,
-  made_statements (bound ds) (fields Script) ds h refl,
-  made_none is_lexical (bound ds) (fields Script) ds h refl,
-  made_none is_parameters (bound ds) (fields Script) ds h refl,
-  made_none is_bound_name (bound ds) (fields Script) ds h refl,
+  made_most true shape.Statements (bound ds) (fields Script) ds h refl,
+  made_most false shape.Lexical (bound ds) (fields Script) ds h refl,
+  made_most false shape.Parameters (bound ds) (fields Script) ds h refl,
+  made_most false shape.BoundName (bound ds) (fields Script) ds h refl,
 )
 
 root_small : (k : Kind) (ds : Data) (b : Bool) → is_script k ≡ b → typed (branch k ds) ≡ true → size (filled (branch k ds)) ≤ 4 * size (branch k ds)
@@ -621,49 +524,5 @@ root_small k ds false e h = omega (arith, node_small (branch k ds) e h)
 pub filled_small : (t : Tree) → typed t ≡ true → size (filled t) ≤ 4 * size t
 filled_small (branch k ds) h = root_small k ds (is_script k) refl h
 
--- flags take the place of flags
-
-with_flag_size : (b : Bool) (ds : Data) → size_in (with_flag b ds) ≡ size_in ds
-with_flag_size b none = refl
-with_flag_size b (more (flag c) ds) = refl
-with_flag_size b (more d ds) = ap (λ n. size_at d + n) (with_flag_size b ds)
-
-entry_size : (c : ℕ → Bool) (d : Datum) → size_at (entry_by c d) ≡ size_at d
-entry_size c (child (branch k ds)) = ap (λ n. 1 + n) (with_flag_size (holds_of c (first_name ds)) ds)
-entry_size c _ = refl
-
-entries_size : (c : ℕ → Bool) (es : Data) → size_in (entries_by c es) ≡ size_in es
-entries_size c none = refl
-entries_size c (more d es) = rw (entry_size c d, entries_size c es) refl
-
-fields_size : (c : ℕ → Bool) (b : Bool) (ds : Data) → size_in (fields_by c b ds) ≡ size_in ds
-fields_size c b (more (listed es) ds) = rw (entries_size c es, with_flag_size b ds) refl
-fields_size c b _ = refl
-
-flagged_scope_size : (c : ℕ → Bool) (b : Bool) (d : Datum) → size_at (scope_by c b d) ≡ size_at d
-flagged_scope_size c b (child (branch k ds)) = ap (λ n. 1 + n) (fields_size c b ds)
-flagged_scope_size c b _ = refl
-
-flagged_field_size : (e : Option ℕ) (d : Datum) (after : Data) (b : Bool) → size_at (flagged_at e d) ≡ size_at d → size_at (if b then flagged_scope e d after else flagged_at e d) ≡ size_at d
-flagged_field_size e d after true h = flagged_scope_size (λ x. crossed_in x after) (evals_in e after) d
-flagged_field_size e d after false h = h
-
-mutual
-  pub flagged_size : (e : Option ℕ) (t : Tree) → size (flagged e t) ≡ size t
-  flagged_size e (branch k ds) = ap (λ n. 1 + n) (flagged_size_in e ds)
-
-  pub flagged_size_at : (e : Option ℕ) (d : Datum) → size_at (flagged_at e d) ≡ size_at d
-  flagged_size_at e (child t) = flagged_size e t
-  flagged_size_at e (listed ds) = ap (λ n. 1 + n) (flagged_size_among e ds)
-  flagged_size_at e _ = refl
-
-  pub flagged_size_in : (e : Option ℕ) (ds : Data) → size_in (flagged_in e ds) ≡ size_in ds
-  flagged_size_in e none = refl
-  flagged_size_in e (more d ds) = rw (flagged_field_size e d ds (is_scope d) (flagged_size_at e d), flagged_size_in e ds) refl
-
-  pub flagged_size_among : (e : Option ℕ) (ds : Data) → size_in (flagged_among e ds) ≡ size_in ds
-  flagged_size_among e none = refl
-  flagged_size_among e (more d ds) = rw (flagged_size_at e d, flagged_size_among e ds) refl
-
 pub exact_small : (texts : List (Option (List ℕ))) (t : Tree) → typed t ≡ true → size (exact texts t) ≤ 4 * size t
-exact_small texts t h = omega (arith, flagged_size (eval_name texts) (filled t), filled_small t h)
+exact_small texts t h = omega (arith, size_same (eval_name texts) (filled t), filled_small t h)

@@ -12,8 +12,7 @@ use Rattle.bast_schema.specs.Unions.{allowed}
 use Rattle.bast_schema.specs.Kinds.{counted}
 use Rattle.bast_schema.specs.Made.{node_of}
 use Rattle.bast_schema.specs.Counts.{size, size_at, size_in}
-use Rattle.bast_schema.specs.Tree.{Tree, branch, Datum, child, listed, Data, none, more, typed, fits, fit, items_fit, item_type, is_none, depth, depth_at, depth_in, kind_of, count}
-use Rattle.bast_schema.proofs.Both.{and_first, and_second}
+use Rattle.bast_schema.specs.Tree.{Tree, branch, Datum, child, listed, flag, Data, none, more, typed, fits, fit, items_fit, item_type, is_none, depth, depth_at, depth_in, kind_of, count}
 use Rattle.bast_schema.proofs.Typed.{made_where_fit}
 use Rattle.scope_facts.specs.declared.names.Declared.{Declared}
 use Rattle.scope_facts.specs.declared.names.NameKind.{NameKind}
@@ -28,6 +27,8 @@ use Rattle.scope_facts.specs.Uses.{is_scope}
 use Rattle.scope_facts.specs.Names.{kind_choice, bound, once, tops_in, lexicals_in}
 use Rattle.scope_facts.specs.Entries.{declared_entries, bound_entries, rest_entries, place_entry, parameter_name, item_entries, list_entries, parameter_entries_by, parameter_entries_at, parameter_entries, entries, flags, flags_by, is_simple}
 use Rattle.scope_facts.specs.Filled.{filled_scope, filled, filled_at, filled_in, filled_among}
+use Rattle.scope_facts.proofs.Alike.{Alike, FilledScopes, filled_alike, implied}
+use Rattle.scope_facts.proofs.NamesKept.{Entered, all_entered}
 use Rattle.scope_facts.proofs.Sizes.{items_bounded}
 
 kind_fits : (k : NameKind) → nat_lt (kind_choice k) 3 ≡ true
@@ -80,56 +81,18 @@ parameters_fit (more d ds) h = at_fit d (omega arith)
 
 -- entries are not deep
 
-declared_flat : (names : List Declared) → depth_in (declared_entries names) ≡ 0
-declared_flat [] = refl
-declared_flat (a ∷ names) = omega (arith, declared_flat names)
-
-bound_flat : (names : List ℕ) → depth_in (bound_entries names) ≡ 0
-bound_flat [] = refl
-bound_flat (n ∷ names) = omega (arith, bound_flat names)
-
-rest_flat : (names : List ℕ) → depth_in (rest_entries names) ≡ 0
-rest_flat [] = refl
-rest_flat (n ∷ names) = omega (arith, rest_flat names)
-
-place_flat : (i : ℕ) (o : Option ℕ) (others : Data) → depth_in others ≡ 0 → depth_in (place_entry i o others) ≡ 0
-place_flat i None others h = h
-place_flat i (Some n) others h = omega (arith, h)
-
-items_flat : (i : ℕ) (items others : Data) → depth_in others ≡ 0 → depth_in (item_entries i items others) ≡ 0
-items_flat i none others h = h
-items_flat i (more d items) others h = place_flat i (parameter_name d) (item_entries (i + 1) items others) (items_flat (i + 1) items others h)
-
-list_flat : (fs : Data) → depth_in (list_entries fs) ≡ 0
-list_flat none = refl
-list_flat (more (listed items) rest) = items_flat 0 items (rest_entries (bound rest)) (rest_flat (bound rest))
-list_flat (more _ rest) = refl
-
-by_flat : (f : Form) (fs : Data) (d : Datum) → depth_in (parameter_entries_by f fs d) ≡ 0
-by_flat form.Parameters fs d = list_flat fs
-by_flat _ fs d = place_flat 0 (parameter_name d) none refl
-
-at_flat : (d : Datum) → depth_in (parameter_entries_at d) ≡ 0
-at_flat (child (branch k fs)) = by_flat (roles.form k) fs (child (branch k fs))
-at_flat _ = refl
-
-parameters_flat : (after : Data) → depth_in (parameter_entries after) ≡ 0
-parameters_flat none = refl
-parameters_flat (more d ds) = at_flat d
-
-entries_flat : (s : Shape) (names : List ℕ) (after : Data) → depth_in (entries s names after) ≡ 0
-entries_flat shape.Statements names after = declared_flat (once [] (tops_in after))
-entries_flat shape.Lexical names after = declared_flat (once [] (lexicals_in after))
-entries_flat shape.Parameters names after = parameters_flat after
-entries_flat shape.BoundName names after = bound_flat names
-entries_flat shape.Nothing names after = refl
+flat_entered : Entered (λ n. true) (λ es. depth_in es ≡ 0)
+flat_entered = record {
+  nothing = refl;
+  declared = λ a es n h. omega (arith, h);
+  bound = λ n es q h. omega (arith, h);
+  rest = λ n es q h. omega (arith, h);
+  positional = λ i n es q h. omega (arith, h);
+}
 
 flags_flat : (s : Shape) (b : Bool) → depth_in (flags_by s b) ≡ 0
 flags_flat shape.Parameters b = refl
-flags_flat shape.Statements b = refl
-flags_flat shape.Lexical b = refl
-flags_flat shape.BoundName b = refl
-flags_flat shape.Nothing b = refl
+flags_flat _ b = refl
 
 not_counted : (k : Kind) → is_scope_part (part k) ≡ true → counted k ≡ false
 not_counted AssertedScriptGlobalScope h = refl
@@ -152,7 +115,7 @@ scope_fit _ names after s h = cc
 
 scope_flat : (k : Kind) (names : List ℕ) (after : Data) → is_scope_part (part k) ≡ true
     → depth (branch k (more (listed (entries (shape_of k) names after)) (flags (shape_of k) after))) ≡ 0
-scope_flat k names after s = rw (not_counted k s, entries_flat (shape_of k) names after, flags_flat (shape_of k) (is_simple after)) refl
+scope_flat k names after s = rw (not_counted k s, all_entered flat_entered (shape_of k) names after, flags_flat (shape_of k) (is_simple after)) refl
 
 at_most : (n : ℕ) → n ≡ 0 → n ≤ 512
 at_most n e = omega arith
@@ -162,68 +125,64 @@ pub scope_made : (k : Kind) (names : List ℕ) (after ds : Data) → is_scope_pa
     → ds ≡ more (listed (entries (shape_of k) names after)) (flags (shape_of k) after) → node_of k ds ≡ Ok (branch k ds)
 scope_made k names after ds s h e = made_where_fit k ds (ap (fit (fields k)) e ∙ scope_fit k names after s h) (at_most (depth (branch k ds)) (ap (λ x. depth (branch k x)) e ∙ scope_flat k names after s))
 
--- a scope in the place of another of its kind
-scope_fits : (t : FieldType) (names : List ℕ) (d : Datum) (after : Data) → is_scope d ≡ true → size_in after ≤ 2 ^ 28 → fits t d ≡ true → fits t (filled_scope names d after) ≡ true
-scope_fits (field.Node u) names (child (branch k ds)) after s h f = rw (and_first (allowed u k) (fit (fields k) ds) f, scope_fit k names after s h) refl
-scope_fits (field.Optional u) names (child (branch k ds)) after s h f = rw (and_first (allowed u k) (fit (fields k) ds) f, scope_fit k names after s h) refl
-scope_fits (field.Lazy u) names (child (branch k ds)) after s h f = rw (and_first (allowed u k) (fit (fields k) ds) f, scope_fit k names after s h) refl
-scope_fits _ names (child (branch k ds)) after s h f = cc
-scope_fits t names _ after s h f = f
+-- a tree that is filled is as well typed
 
-child_fits : (t : FieldType) (u v : Tree) → kind_of u ≡ kind_of v → (typed u ≡ true → typed v ≡ true) → fits t (child u) ≡ true → fits t (child v) ≡ true
-child_fits (field.Node w) u v k h f = rw (← k, and_first (allowed w (kind_of u)) (typed u) f, h (and_second (allowed w (kind_of u)) (typed u) f)) refl
-child_fits (field.Optional w) u v k h f = rw (← k, and_first (allowed w (kind_of u)) (typed u) f, h (and_second (allowed w (kind_of u)) (typed u) f)) refl
-child_fits (field.Lazy w) u v k h f = rw (← k, and_first (allowed w (kind_of u)) (typed u) f, h (and_second (allowed w (kind_of u)) (typed u) f)) refl
-child_fits _ u v k h f = cc
+child_fits : (t : FieldType) (k : Kind) (ds es : Data) → (typed (branch k ds) ≡ true → typed (branch k es) ≡ true) → fits t (child (branch k ds)) ≡ true → fits t (child (branch k es)) ≡ true
+child_fits (field.Node w) k ds es h f = implied (allowed w k) (typed (branch k ds)) (allowed w k) (typed (branch k es)) (λ a. a) h f
+child_fits (field.Optional w) k ds es h f = implied (allowed w k) (typed (branch k ds)) (allowed w k) (typed (branch k es)) (λ a. a) h f
+child_fits (field.Lazy w) k ds es h f = implied (allowed w k) (typed (branch k ds)) (allowed w k) (typed (branch k es)) (λ a. a) h f
+child_fits _ k ds es h f = cc
 
-list_fits : (t : FieldType) (ds es : Data) → is_none ds ≡ is_none es → ((u : Union) (holes : Bool) → items_fit u holes ds ≡ true → items_fit u holes es ≡ true) → fits t (listed ds) ≡ true → fits t (listed es) ≡ true
-list_fits (field.List u holes filled) ds es n h f = rw (← n, and_first (not filled || not (is_none ds)) (items_fit u holes ds) f, h u holes (and_second (not filled || not (is_none ds)) (items_fit u holes ds) f)) refl
-list_fits _ ds es n h f = cc
+-- lists that are empty alike, and where items of a type stand for such
+record ItemsFilled (ds es : Data) : Type 0 where
+  empty : is_none ds ≡ is_none es
+  items : (u : Union) (holes : Bool) → size_in ds ≤ 2 ^ 28 → items_fit u holes ds ≡ true → items_fit u holes es ≡ true
 
-kind_same : (t : Tree) → kind_of t ≡ kind_of (filled t)
-kind_same (branch k ds) = refl
+list_fits : (t : FieldType) (ds es : Data) → ItemsFilled ds es → size_in ds ≤ 2 ^ 28 → fits t (listed ds) ≡ true → fits t (listed es) ≡ true
+list_fits (field.List u holes filled) ds es r h f = rw (← r.empty) (implied (not filled || not (is_none ds)) (items_fit u holes ds) (not filled || not (is_none ds)) (items_fit u holes es) (λ a. a) (r.items u holes h) f)
+list_fits _ ds es r h f = cc
 
-among_none : (ds : Data) → is_none ds ≡ is_none (filled_among ds)
-among_none none = refl
-among_none (more d ds) = refl
+fit_more : (c d : Datum) (cs ds : Data) → ((t : FieldType) → size_at c ≤ 2 ^ 28 → fits t c ≡ true → fits t d ≡ true) → ((ts : List FieldType) → size_in cs ≤ 2 ^ 28 → fit ts cs ≡ true → fit ts ds ≡ true)
+    → (ts : List FieldType) → size_in (more c cs) ≤ 2 ^ 28 → fit ts (more c cs) ≡ true → fit ts (more d ds) ≡ true
+fit_more c d cs ds f g [] h e = cc
+fit_more c d cs ds f g (t ∷ ts) h e = implied (fits t c) (fit ts cs) (fits t d) (fit ts ds) (f t (omega arith)) (g ts (omega arith)) e
 
-both : (a b : Bool) → a ≡ true → b ≡ true → (a && b) ≡ true
-both a b e f = rw (e, f) refl
+items_more : (c d : Datum) (cs ds : Data) → ((t : FieldType) → size_at c ≤ 2 ^ 28 → fits t c ≡ true → fits t d ≡ true) → ItemsFilled cs ds → (u : Union) (holes : Bool) → size_in (more c cs) ≤ 2 ^ 28
+    → items_fit u holes (more c cs) ≡ true → items_fit u holes (more d ds) ≡ true
+items_more c d cs ds f g u holes h e = implied (fits (item_type u holes) c) (items_fit u holes cs) (fits (item_type u holes) d) (items_fit u holes ds) (f (item_type u holes) (omega arith)) (g.items u holes (omega arith)) e
 
-field_fits : (t : FieldType) (names : List ℕ) (d : Datum) (after : Data) (b : Bool) → is_scope d ≡ b → size_in after ≤ 2 ^ 28 → (fits t d ≡ true → fits t (filled_at d) ≡ true) → fits t d ≡ true
-    → fits t (if b then filled_scope names d after else filled_at d) ≡ true
-field_fits t names d after true s h g f = scope_fits t names d after s h f
-field_fits t names d after false s h g f = g f
+less_one : (n : ℕ) → 1 + n ≤ 2 ^ 28 → n ≤ 2 ^ 28
+less_one n h = omega arith
 
-mutual
-  pub filled_typed : (t : Tree) → size t ≤ 2 ^ 28 → typed t ≡ true → typed (filled t) ≡ true
-  filled_typed (branch k ds) h f = filled_fit (bound ds) ds (fields k) (omega arith) f
+flag_fits : (t : FieldType) (b c : Bool) → fits t (flag b) ≡ true → fits t (flag c) ≡ true
+flag_fits field.Bool b c f = refl
+flag_fits _ b c f = cc
 
-  pub filled_fits : (d : Datum) (t : FieldType) → size_at d ≤ 2 ^ 28 → fits t d ≡ true → fits t (filled_at d) ≡ true
-  filled_fits (child u) t h f = child_fits t u (filled u) (kind_same u) (filled_typed u h) f
-  filled_fits (listed ds) t h f = list_fits t ds (filled_among ds) (among_none ds) (λ u holes. filled_items ds u holes (omega arith)) f
-  filled_fits _ t h f = f
+abbrev typed_alike : Alike
+typed_alike = record {
+  of = λ t u. size t ≤ 2 ^ 28 → typed t ≡ true → typed u ≡ true;
+  at = λ c d. (t : FieldType) → size_at c ≤ 2 ^ 28 → fits t c ≡ true → fits t d ≡ true;
+  fields = λ ns ds es. (ts : List FieldType) → size_in ds ≤ 2 ^ 28 → fit ts ds ≡ true → fit ts es ≡ true;
+  items = ItemsFilled;
+  nodes = λ k ds es f h. f (fields k) (less_one (size_in ds) h);
+  children = λ k ds es f t h. child_fits t k ds es (f h);
+  lists = λ ds es r t h. list_fits t ds es r (less_one (size_in ds) h);
+  self = λ d t h f. f;
+  flags = λ b c t h. flag_fits t b c;
+  no_fields = λ ns ts h f. f;
+  more_fields = λ ns c d cs ds f g. fit_more c d cs ds f g;
+  no_items = record { empty = refl; items = λ u holes h f. refl };
+  more_items = λ c d cs ds f g. record { empty = refl; items = items_more c d cs ds f g };
+}
 
-  pub filled_fit : (names : List ℕ) (ds : Data) (ts : List FieldType) → size_in ds ≤ 2 ^ 28 → fit ts ds ≡ true → fit ts (filled_in names ds) ≡ true
-  filled_fit names none ts h f = f
-  filled_fit names (more d ds) [] h f = cc
-  filled_fit names (more d ds) (t ∷ ts) h f = both (fits t (if is_scope d then filled_scope names d ds else filled_at d)) (fit ts (filled_in names ds))
-      (field_fits t names d ds (is_scope d) refl (omega arith) (filled_fits d t (omega arith)) (and_first (fits t d) (fit ts ds) f))
-      (filled_fit names ds ts (omega arith) (and_second (fits t d) (fit ts ds) f))
+typed_scopes : FilledScopes typed_alike
+typed_scopes ns k ds after es s f ts h = fit_more (child (branch k ds)) (filled_scope ns (child (branch k ds)) after) after es
+    (λ t i. child_fits t k ds (more (listed (entries (shape_of k) ns after)) (flags (shape_of k) after)) (λ e. scope_fit k ns after s (omega arith))) f ts h
 
-  pub filled_items : (ds : Data) (u : Union) (holes : Bool) → size_in ds ≤ 2 ^ 28 → items_fit u holes ds ≡ true → items_fit u holes (filled_among ds) ≡ true
-  filled_items none u holes h f = refl
-  filled_items (more d ds) u holes h f = both (fits (item_type u holes) (filled_at d)) (items_fit u holes (filled_among ds))
-      (filled_fits d (item_type u holes) (omega arith) (and_first (fits (item_type u holes) d) (items_fit u holes ds) f))
-      (filled_items ds u holes (omega arith) (and_second (fits (item_type u holes) d) (items_fit u holes ds) f))
+pub filled_typed : (t : Tree) → size t ≤ 2 ^ 28 → typed t ≡ true → typed (filled t) ≡ true
+filled_typed = filled_alike typed_alike typed_scopes
 
-scope_depth : (names : List ℕ) (d : Datum) (after : Data) → is_scope d ≡ true → depth_at (filled_scope names d after) ≤ depth_at d
-scope_depth names (child (branch k ds)) after s = let e : depth (branch k (more (listed (entries (shape_of k) names after)) (flags (shape_of k) after))) ≡ 0 = scope_flat k names after s in omega (arith, e)
-scope_depth names _ after s = cc
-
-field_depth : (names : List ℕ) (d : Datum) (after : Data) (b : Bool) → is_scope d ≡ b → depth_at (filled_at d) ≤ depth_at d → depth_at (if b then filled_scope names d after else filled_at d) ≤ depth_at d
-field_depth names d after true s h = scope_depth names d after s
-field_depth names d after false s h = h
+-- and not deeper
 
 max_less : (a b c d : ℕ) → a ≤ b → c ≤ d → max a c ≤ max b d
 max_less a b c d h g = omega arith
@@ -234,22 +193,28 @@ same_more n a b h = omega arith
 refl_le : (n : ℕ) → n ≤ n
 refl_le n = omega arith
 
-mutual
-  pub filled_depth : (t : Tree) → depth (filled t) ≤ depth t
-  filled_depth (branch k ds) = same_more (if counted k then 1 else 0) (depth_in (filled_in (bound ds) ds)) (depth_in ds) (filled_depth_in (bound ds) ds)
+abbrev depth_alike : Alike
+depth_alike = record {
+  of = λ t u. depth u ≤ depth t;
+  at = λ c d. depth_at d ≤ depth_at c;
+  fields = λ ns ds es. depth_in es ≤ depth_in ds;
+  items = λ ds es. depth_in es ≤ depth_in ds;
+  nodes = λ k ds es h. same_more (if counted k then 1 else 0) (depth_in es) (depth_in ds) h;
+  children = λ k ds es h. h;
+  lists = λ ds es h. h;
+  self = λ d. refl_le (depth_at d);
+  flags = λ b c. refl_le 0;
+  no_fields = λ ns. refl_le 0;
+  more_fields = λ ns c d cs ds f g. max_less (depth_at d) (depth_at c) (depth_in ds) (depth_in cs) f g;
+  no_items = refl_le 0;
+  more_items = λ c d cs ds f g. max_less (depth_at d) (depth_at c) (depth_in ds) (depth_in cs) f g;
+}
 
-  pub filled_depth_at : (d : Datum) → depth_at (filled_at d) ≤ depth_at d
-  filled_depth_at (child t) = filled_depth t
-  filled_depth_at (listed ds) = filled_depth_among ds
-  filled_depth_at d = refl_le (depth_at d)
+depth_scopes : FilledScopes depth_alike
+depth_scopes ns k ds after es s h = let e : depth (branch k (more (listed (entries (shape_of k) ns after)) (flags (shape_of k) after))) ≡ 0 = scope_flat k ns after s in omega (arith, e, h)
 
-  pub filled_depth_in : (names : List ℕ) (ds : Data) → depth_in (filled_in names ds) ≤ depth_in ds
-  filled_depth_in names none = refl_le 0
-  filled_depth_in names (more d ds) = max_less (depth_at (if is_scope d then filled_scope names d ds else filled_at d)) (depth_at d) (depth_in (filled_in names ds)) (depth_in ds) (field_depth names d ds (is_scope d) refl (filled_depth_at d)) (filled_depth_in names ds)
-
-  pub filled_depth_among : (ds : Data) → depth_in (filled_among ds) ≤ depth_in ds
-  filled_depth_among none = refl_le 0
-  filled_depth_among (more d ds) = max_less (depth_at (filled_at d)) (depth_at d) (depth_in (filled_among ds)) (depth_in ds) (filled_depth_at d) (filled_depth_among ds)
+pub filled_depth : (t : Tree) → depth (filled t) ≤ depth t
+filled_depth = filled_alike depth_alike depth_scopes
 
 pub from_is_true : (b : Bool) → IsTrue b → b ≡ true
 from_is_true true h = refl

@@ -26,7 +26,7 @@ or_end : (a : Bool) → (a || false) ≡ (false || a)
 or_end true = refl
 or_end false = refl
 
-or_assoc : (a b c : Bool) → (a || (b || c)) ≡ ((a || b) || c)
+pub or_assoc : (a b c : Bool) → (a || (b || c)) ≡ ((a || b) || c)
 or_assoc true b c = refl
 or_assoc false b c = refl
 

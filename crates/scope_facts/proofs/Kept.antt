@@ -2,6 +2,7 @@
 use Rattle.std.proofs.Common.{ℕ, List, [], ◌≡◌, Bool, true, false, refl, ap, sym, ◌&&◌, ◌||◌, not, if◌then◌else◌, Option, None, Some, ◌∙◌}
 use Rattle.bast_schema.specs.declared.kind.Kind.{Kind}
 use Rattle.bast_schema.specs.Tree.{Tree, branch, Datum, child, absent, listed, flag, index, whole, name, no_name, choice, window, Data, none, more}
+use Rattle.bast_schema.proofs.Both.{both}
 use Rattle.scope_facts.specs.declared.roles.Part.{Part}
 use Rattle.scope_facts.specs.declared.roles.Part.TheVariants.{Scope, Use, Call, Function, Other}
 use Rattle.scope_facts.specs.Roles.{part, is_scope_part}
@@ -11,20 +12,13 @@ use Rattle.scope_facts.specs.Flagged.{with_flag, holds_of, entry_by, entries_by,
 use Rattle.scope_facts.specs.Filled.{filled}
 use Rattle.scope_facts.specs.Exact.{exact, eval_name}
 use Rattle.scope_facts.specs.Reading.{says_eval, evals_told, evals_told_at, evals_told_in, evals_told_among}
-use Rattle.scope_facts.proofs.Nearest.{uses_respect}
+use Rattle.scope_facts.proofs.Nearest.{or_left, or_right, uses_respect}
 
 pub first_name_flag : (b : Bool) (ds : Data) → first_name (with_flag b ds) ≡ first_name ds
 first_name_flag b none = refl
 first_name_flag b (more (name n) ds) = refl
 first_name_flag b (more (flag c) ds) = refl
-first_name_flag b (more (child t) ds) = first_name_flag b ds
-first_name_flag b (more absent ds) = first_name_flag b ds
-first_name_flag b (more (listed es) ds) = first_name_flag b ds
-first_name_flag b (more (index n) ds) = first_name_flag b ds
-first_name_flag b (more (whole n) ds) = first_name_flag b ds
-first_name_flag b (more no_name ds) = first_name_flag b ds
-first_name_flag b (more (choice n) ds) = first_name_flag b ds
-first_name_flag b (more (window m n) ds) = first_name_flag b ds
+first_name_flag b (more d ds) = first_name_flag b ds
 
 is_entry_same : (x : ℕ) (c : ℕ → Bool) (d : Datum) → is_entry x (entry_by c d) ≡ is_entry x d
 is_entry_same x c (child (branch k ds)) = ap (is_name x) (first_name_flag (holds_of c (first_name ds)) ds)
@@ -57,14 +51,7 @@ first_name_same : (e : Option ℕ) (ds : Data) → first_name (flagged_in e ds) 
 first_name_same e none = refl
 first_name_same e (more (name n) ds) = refl
 first_name_same e (more (child (branch k ms)) ds) = first_name_child (is_scope (child (branch k ms))) e k ms ds (flagged_in e ds) ∙ first_name_same e ds
-first_name_same e (more (flag c) ds) = first_name_same e ds
-first_name_same e (more absent ds) = first_name_same e ds
-first_name_same e (more (listed es) ds) = first_name_same e ds
-first_name_same e (more (index n) ds) = first_name_same e ds
-first_name_same e (more (whole n) ds) = first_name_same e ds
-first_name_same e (more no_name ds) = first_name_same e ds
-first_name_same e (more (choice n) ds) = first_name_same e ds
-first_name_same e (more (window m n) ds) = first_name_same e ds
+first_name_same e (more d ds) = first_name_same e ds
 
 -- the uses below are as before
 
@@ -119,15 +106,7 @@ or_not false = refl
 captured_with : (b : Bool) (ds : Data) → (is_captured (with_flag b ds) || not b) ≡ true
 captured_with b none = refl
 captured_with b (more (flag c) ds) = or_not b
-captured_with b (more (name n) ds) = captured_with b ds
-captured_with b (more (child t) ds) = captured_with b ds
-captured_with b (more absent ds) = captured_with b ds
-captured_with b (more (listed es) ds) = captured_with b ds
-captured_with b (more (index n) ds) = captured_with b ds
-captured_with b (more (whole n) ds) = captured_with b ds
-captured_with b (more no_name ds) = captured_with b ds
-captured_with b (more (choice n) ds) = captured_with b ds
-captured_with b (more (window m n) ds) = captured_with b ds
+captured_with b (more d ds) = captured_with b ds
 
 kept_entry_by : (e : Option ℕ) (d : Datum) (after : Data) → kept_entry (entry_by (λ x. crossed_in x after) d) (flagged_in e after) ≡ true
 kept_entry_by e (child (branch k ds)) after = rw (first_name_flag (needed (first_name ds) after) ds, needed_same (first_name ds) e after) (captured_with (needed (first_name ds) after) ds)
@@ -189,50 +168,20 @@ call_child e false p k ms after ds s h = callee_named e e (part k) ms
 call_same : (e : Option ℕ) (ds : Data) → is_eval e Call (flagged_in e ds) ≡ is_eval e Call ds
 call_same e none = refl
 call_same e (more (child (branch k ms)) ds) = call_child e (is_scope (child (branch k ms))) Call k ms ds (flagged_in e ds) refl (scope_no_use e (part k) ms)
-call_same e (more (flag c) ds) = refl
-call_same e (more absent ds) = refl
-call_same e (more (listed es) ds) = refl
-call_same e (more (name n) ds) = refl
-call_same e (more (index n) ds) = refl
-call_same e (more (whole n) ds) = refl
-call_same e (more no_name ds) = refl
-call_same e (more (choice n) ds) = refl
-call_same e (more (window m n) ds) = refl
+call_same e (more d ds) = refl
 
 eval_same : (e : Option ℕ) (p : Part) (ds : Data) → is_eval e p (flagged_in e ds) ≡ is_eval e p ds
 eval_same e Call ds = call_same e ds
-eval_same e Scope ds = refl
-eval_same e Use ds = refl
-eval_same e Function ds = refl
-eval_same e Other ds = refl
+eval_same e _ ds = refl
 
 says_with : (b : Bool) (ds : Data) → b ≡ true → is_captured (with_flag b ds) ≡ true
 says_with b none h = refl
 says_with b (more (flag c) ds) h = h
-says_with b (more (name n) ds) h = says_with b ds h
-says_with b (more (child t) ds) h = says_with b ds h
-says_with b (more absent ds) h = says_with b ds h
-says_with b (more (listed es) ds) h = says_with b ds h
-says_with b (more (index n) ds) h = says_with b ds h
-says_with b (more (whole n) ds) h = says_with b ds h
-says_with b (more no_name ds) h = says_with b ds h
-says_with b (more (choice n) ds) h = says_with b ds h
-says_with b (more (window m n) ds) h = says_with b ds h
+says_with b (more d ds) h = says_with b ds h
 
 says_flagged : (e : Option ℕ) (d : Datum) (after : Data) → evals_in e after ≡ true → says_eval (flagged_scope e d after) ≡ true
 says_flagged e (child (branch k (more (listed es) ds))) after h = says_with (evals_in e after) ds h
 says_flagged e _ after h = refl
-
-both : (a b : Bool) → a ≡ true → b ≡ true → (a && b) ≡ true
-both a b e f = rw (e, f) refl
-
-or_left : (a b : Bool) → a ≡ true → (a || b) ≡ true
-or_left true b e = refl
-or_left false b e = cc
-
-or_right : (a b : Bool) → b ≡ true → (a || b) ≡ true
-or_right true b e = refl
-or_right false b e = e
 
 told_here : (a b : Bool) → (a ≡ true → b ≡ true) → (not a || b) ≡ true
 told_here true b h = h refl

@@ -1,3 +1,4 @@
+pub mod Alike
 pub mod Once
 pub mod Bares
 pub mod Sizes

@@ -41,17 +41,9 @@ pub bare_child : (b : Bool) (k : Kind) (ms : Data) → (if b then bare_scope (ch
 bare_child true k ms = refl
 bare_child false k ms = refl
 
-pub bare_form : (b : Bool) (k : Kind) → form (if b then k else eager k) ≡ form k
-bare_form true k = refl
-bare_form false k = eager_form k
-
 empty_vars : (s : Shape) → vars_in (empty_fields s) ≡ []
 empty_vars shape.Parameters = refl
 empty_vars _ = refl
-
-empty_lexicals : (s : Shape) → lexicals_in (empty_fields s) ≡ []
-empty_lexicals shape.Parameters = refl
-empty_lexicals _ = refl
 
 empty_bound : (s : Shape) → bound (empty_fields s) ≡ []
 empty_bound shape.Parameters = refl

@@ -177,15 +177,7 @@ mutual
 with_flag_renamed : (r : ℕ → ℕ) (b : Bool) (ds : Data) → with_flag b (renamed_in r ds) ≡ renamed_in r (with_flag b ds)
 with_flag_renamed r b none = refl
 with_flag_renamed r b (more (flag c) ds) = refl
-with_flag_renamed r b (more (child t) ds) = ap (more (child (renamed r t))) (with_flag_renamed r b ds)
-with_flag_renamed r b (more (listed es) ds) = ap (more (listed (renamed_in r es))) (with_flag_renamed r b ds)
-with_flag_renamed r b (more (name n) ds) = ap (more (name (r n))) (with_flag_renamed r b ds)
-with_flag_renamed r b (more absent ds) = ap (more absent) (with_flag_renamed r b ds)
-with_flag_renamed r b (more (index n) ds) = ap (more (index n)) (with_flag_renamed r b ds)
-with_flag_renamed r b (more (whole n) ds) = ap (more (whole n)) (with_flag_renamed r b ds)
-with_flag_renamed r b (more no_name ds) = ap (more no_name) (with_flag_renamed r b ds)
-with_flag_renamed r b (more (choice n) ds) = ap (more (choice n)) (with_flag_renamed r b ds)
-with_flag_renamed r b (more (window m n) ds) = ap (more (window m n)) (with_flag_renamed r b ds)
+with_flag_renamed r b (more d ds) = ap (more (renamed_at r d)) (with_flag_renamed r b ds)
 
 holds_renamed : (r : ℕ → ℕ) (c b : ℕ → Bool) → ((n : ℕ) → b (r n) ≡ c n) → (o : Option ℕ) → holds_of b (option_map r o) ≡ holds_of c o
 holds_renamed r c b h None = refl

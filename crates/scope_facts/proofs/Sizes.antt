@@ -9,14 +9,7 @@ use Rattle.bast_schema.specs.Counts.{size_at, size_in}
 pub size_at_positive : (d : Datum) → 1 ≤ size_at d
 size_at_positive (child (branch k ds)) = omega arith
 size_at_positive (listed ds) = omega arith
-size_at_positive absent = omega arith
-size_at_positive (flag b) = omega arith
-size_at_positive (index n) = omega arith
-size_at_positive (whole n) = omega arith
-size_at_positive (name n) = omega arith
-size_at_positive no_name = omega arith
-size_at_positive (choice n) = omega arith
-size_at_positive (window m n) = omega arith
+size_at_positive _ = omega arith
 
 -- at most as many values as the size says
 pub count_le-size : (ds : Data) → count ds ≤ size_in ds

@@ -15,8 +15,8 @@ use Rattle.scope_facts.specs.Roles.{part, is_function}
 use Rattle.scope_facts.specs.Uses.{is_scope, first_name, is_name, is_entry, has_entry, declares, is_use_named, is_use_of, used, used_at, used_in, used_among, crossed, crossed_at, crossed_in, crossed_among, evals_in}
 use Rattle.scope_facts.specs.Flagged.{holds_of, entry_by, entries_by, scope_by, flagged_scope, flagged_in}
 use Rattle.scope_facts.specs.Covers.{cover_of, touched, is_caught, is_within, AreWithin, has_name, entry_name, names_among, entry_names, restored, inside_now, Touches}
-use Rattle.scope_facts.proofs.Nearest.{crossed_used_in}
-use Rattle.scope_facts.proofs.FlaggedItems.{used_last, crossed_last}
+use Rattle.scope_facts.proofs.Nearest.{or_left, or_right, crossed_used_in}
+use Rattle.scope_facts.proofs.FlaggedItems.{or_assoc, used_last, crossed_last}
 
 or_false : (b : Bool) → (b || false) ≡ b
 or_false true = refl
@@ -59,10 +59,7 @@ within_more n (Some e) h = one_more n e.function h
 
 pub within_inside : (p : Part) (n : ℕ) (cs : List (Option Cover)) → AreWithin n cs → AreWithin (inside_now p n) cs
 within_inside Function n cs w = record { all = λ x. within_more n (cover_of cs x) (w.all x) }
-within_inside Scope n cs w = w
-within_inside Use n cs w = w
-within_inside Call n cs w = w
-within_inside Other n cs w = w
+within_inside _ n cs w = w
 
 not_less : (n : ℕ) → nat_lt n n ≡ false
 not_less n = grind (arith, nat_tests)
@@ -131,19 +128,7 @@ named x (Some n) = sym (or_false (nat_eq n x))
 
 entry_named : (x : ℕ) (d : Datum) → is_entry x d ≡ has_name x (option_to_list (entry_name d))
 entry_named x (child (branch k ds)) = named x (first_name ds)
-entry_named x (listed ds) = refl
-entry_named x absent = refl
-entry_named x (flag b) = refl
-entry_named x (index n) = refl
-entry_named x (whole n) = refl
-entry_named x (name n) = refl
-entry_named x no_name = refl
-entry_named x (choice n) = refl
-entry_named x (window m n) = refl
-
-or_assoc : (a b c : Bool) → (a || (b || c)) ≡ ((a || b) || c)
-or_assoc true b c = refl
-or_assoc false b c = refl
+entry_named x _ = refl
 
 has_append : (x : ℕ) (ms ns : List ℕ) → has_name x (ms ++ ns) ≡ (has_name x ms || has_name x ns)
 has_append x [] ns = refl
@@ -187,14 +172,6 @@ scope_touches d ds all ns now os bs cs es shadows is s ne entered kept t left =
 
 equal_names : (n : ℕ) → nat_eq n n ≡ true
 equal_names n = grind (arith, nat_tests)
-
-or_left : (a b : Bool) → a ≡ true → (a || b) ≡ true
-or_left true b e = refl
-or_left false b e = cc
-
-or_right : (a b : Bool) → b ≡ true → (a || b) ≡ true
-or_right true b e = refl
-or_right false b e = e
 
 holds_same : (c e : ℕ → Bool) (o : Option ℕ) → ((x : ℕ) → is_name x o ≡ true → c x ≡ e x) → holds_of c o ≡ holds_of e o
 holds_same c e None h = refl

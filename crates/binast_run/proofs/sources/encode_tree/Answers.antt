@@ -1,4 +1,4 @@
-use Rattle.binast_run.proofs.EagerKept.{exact_eager}
+use Rattle.scope_facts.proofs.WholeKept.{exact_eager}
 use Rattle.binast_run.proofs.ExactNamed.{exact_in_grammar}
 use Rattle.binast_run.proofs.sources.encode_tree.Goals as goal
 

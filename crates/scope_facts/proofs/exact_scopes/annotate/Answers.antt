@@ -5,10 +5,9 @@ use Rattle.scope_facts.specs.Exact.{exact, eval_name}
 use Rattle.scope_facts.specs.Filled.{filled}
 use Rattle.scope_facts.specs.Flagged.{flagged}
 use Rattle.bast_schema.specs.NamesHold.{names_hold}
-use Rattle.scope_facts.proofs.ExactSize.{flagged_size}
 use Rattle.scope_facts.proofs.WholeKept.{exact_whole}
 use Rattle.scope_facts.proofs.NamesKept.{exact_names}
-use Rattle.scope_facts.proofs.FlaggedTyped.{depth_same}
+use Rattle.scope_facts.proofs.FlaggedTyped.{depth_same, size_same}
 use Rattle.scope_facts.proofs.FilledTyped.{filled_depth}
 use Rattle.scope_facts.proofs.exact_scopes.annotate.Goals as goal
 
@@ -24,5 +23,5 @@ returns c =
       whole = λ h. ap is_whole is ∙ exact_whole c.args.strings.now c.args.tree h;
       names = λ p h. ap (names_hold p) is ∙ exact_names c.args.strings.now c.args.tree p h;
       depth = subst (λ t. depth t ≤ depth c.args.tree) (sym is) (exact_depth c.args.strings.now c.args.tree);
-      size = omega (arith, c.requires, ap size c.in_ok-tree-2.ensures.tree ∙ flagged_size c.name_of_eval-eval.result c.in_ok-tree.tree, c.in_ok-tree.ensures.size);
+      size = omega (arith, c.requires, ap size c.in_ok-tree-2.ensures.tree ∙ size_same c.name_of_eval-eval.result c.in_ok-tree.tree, c.in_ok-tree.ensures.size);
     }
