@@ -1,5 +1,5 @@
 -- Each row that is sound follows what it makes without a limit.
-use Rattle.std.proofs.Common.{◌≡◌, ◌≤◌, ℕ, Bool, true, false, not, ◌&&◌, ◌||◌, List, [], ◌∷◌, ◌++◌, Option, Some, None, Result, Ok, refl, sym, subst, arith}
+use Rattle.std.proofs.Common.{◌≡◌, ◌≤◌, ℕ, Bool, true, false, not, ◌&&◌, ◌||◌, List, [], ◌∷◌, ◌++◌, Option, Some, None, Ok, refl, sym, subst, arith}
 use Rattle.bast_base.specs.declared.errors.NameId.{NameId}
 use Rattle.bast_schema.specs.declared.kind.Kind.TheVariants as kinds
 use Rattle.bast_schema.specs.Tree.{branch, child, name, Data, depth_in}
@@ -17,7 +17,6 @@ use Rattle.js_tree.specs.Parts.{taken_leaf, taken_endings}
 use Rattle.js_tree.specs.Recipes.{recipe}
 use Rattle.js_tree.specs.Results.{there}
 use Rattle.js_tree.specs.Steps.{gathered, no_work, operand, tail, rest, hold, put, quoted, text, with_value}
-use Rattle.js_tree.specs.declared.fault.Fault.{Fault}
 use Rattle.js_tree.specs.declared.parts.Part.{Part}
 use Rattle.js_tree.specs.declared.parts.Part.TheVariants as parts
 use Rattle.js_tree.specs.declared.parts.Form.TheVariants as forms
@@ -26,7 +25,7 @@ use Rattle.js_tree.specs.declared.recipe.Finish.{Finish}
 use Rattle.js_tree.specs.declared.recipe.Finish.TheVariants as finishes
 use Rattle.js_tree.specs.declared.recipe.Step.TheVariants as steps
 use Rattle.js_tree.specs.declared.work.Work.{Work}
-use Rattle.js_tree.proofs.Holding.{Holds, then, each_result, HoldsWork}
+use Rattle.js_tree.proofs.Holding.{Holds, then, any, is_not, HoldsWork}
 use Rattle.js_tree.proofs.Following.{done, FlatWork, FlatGot, mapped}
 use Rattle.js_tree.proofs.FollowSteps.{KnownEndings, leaf_follows, endings_follows, Stepped, no_data, all_follow}
 use Rattle.js_tree.proofs.FollowFinishes.{IsIdent, Head, Finishes, Spare, with_spare, no_endings, head_values, head_items, head_endings, folds_finish, statement_finish, property_finish, fills_finish, first_of_all}
@@ -34,50 +33,28 @@ use Rattle.js_tree.proofs.FollowRows.{binds_finish, declares_finish, arrow_finis
 use Rattle.js_tree.proofs.Laying.{FirstInstead, Arounds, LeafIf, PlainIf, AroundIf, RawPart, is_statement, is_accessor, SmallIf, RawItems, is_plain, Suits, Laid, Flow, Empty, no_flow, may_finish, may_head, may_stand, may_leave, may_all, left_by_all, after_all}
 
 nots3 : (a b c : Bool) → (not a && not b && not c) ≡ true → (a ≡ false) × (b ≡ false) × (c ≡ false)
-nots3 true b c e = absurd cc
-nots3 false true c e = absurd cc
-nots3 false false true e = absurd cc
 nots3 false false false e = (refl, refl, refl)
+nots3 _ _ _ e = absurd cc
 
 nots4 : (a b c d : Bool) → (not a && not b && not c && not d) ≡ true → (a ≡ false) × (b ≡ false) × (c ≡ false) × (d ≡ false)
-nots4 true b c d e = absurd cc
-nots4 false true c d e = absurd cc
-nots4 false false true d e = absurd cc
-nots4 false false false true e = absurd cc
 nots4 false false false false e = (refl, refl, refl, refl)
+nots4 _ _ _ _ e = absurd cc
 
 nots5 : (a b c d f : Bool) → (not a && not b && not c && not d && not f) ≡ true → (a ≡ false) × (b ≡ false) × (c ≡ false) × (d ≡ false) × (f ≡ false)
-nots5 true b c d f e = absurd cc
-nots5 false true c d f e = absurd cc
-nots5 false false true d f e = absurd cc
-nots5 false false false true f e = absurd cc
-nots5 false false false false true e = absurd cc
 nots5 false false false false false e = (refl, refl, refl, refl, refl)
+nots5 _ _ _ _ _ e = absurd cc
 
 is_nots2 : (o a b : Bool) → (o && not a && not b) ≡ true → (o ≡ true) × (a ≡ false) × (b ≡ false)
-is_nots2 false a b e = absurd cc
-is_nots2 true true b e = absurd cc
-is_nots2 true false true e = absurd cc
 is_nots2 true false false e = (refl, refl, refl)
+is_nots2 _ _ _ e = absurd cc
 
 is_nots3 : (o a b c : Bool) → (o && not a && not b && not c) ≡ true → (o ≡ true) × (a ≡ false) × (b ≡ false) × (c ≡ false)
-is_nots3 false a b c e = absurd cc
-is_nots3 true true b c e = absurd cc
-is_nots3 true false true c e = absurd cc
-is_nots3 true false false true e = absurd cc
 is_nots3 true false false false e = (refl, refl, refl, refl)
+is_nots3 _ _ _ _ e = absurd cc
 
 is_nots4 : (o a b c d : Bool) → (o && not a && not b && not c && not d) ≡ true → (o ≡ true) × (a ≡ false) × (b ≡ false) × (c ≡ false) × (d ≡ false)
-is_nots4 false a b c d e = absurd cc
-is_nots4 true true b c d e = absurd cc
-is_nots4 true false true c d e = absurd cc
-is_nots4 true false false true d e = absurd cc
-is_nots4 true false false false true e = absurd cc
 is_nots4 true false false false false e = (refl, refl, refl, refl, refl)
-
-is_not : (a : Bool) → not a ≡ true → a ≡ false
-is_not true e = sym e
-is_not false e = refl
+is_nots4 _ _ _ _ _ e = absurd cc
 
 either_way : (p q : Bool) → (not p || q) ≡ true → p ≡ true → q ≡ true
 either_way true q e f = e
@@ -102,38 +79,28 @@ RawFact _ w = Unit {0}
 
 -- where the finish leaves part and place, the part may stand for the row's symbol
 small_stands : (b c : Bool) (p : Part) → (not b || c) ≡ true → RawPart b p → RawPart c p
-small_stands b c (parts.Token l) e h = tt
-small_stands b c parts.Counted e h = tt
 small_stands true true (parts.Values ds raw) e h = h
 small_stands true false (parts.Values ds raw) e h = absurd cc
 small_stands false true (parts.Values ds None) e h = tt
 small_stands false true (parts.Values ds (Some n)) e h = omega (arith, h)
 small_stands false false (parts.Values ds raw) e h = h
-small_stands b c (parts.Endings es) e h = tt
 small_stands b c (parts.Items is) e h = h
+small_stands b c _ e h = tt
 
 around_stands : (b c : Bool) (p : Part) → (not b || c) ≡ true → AroundIf b p → AroundIf c p
-around_stands b c (parts.Token l) e h = tt
-around_stands b c parts.Counted e h = tt
-around_stands b c (parts.Values ds raw) e h = tt
 around_stands true true (parts.Endings es) e h = h
 around_stands true false (parts.Endings es) e h = absurd cc
 around_stands false true (parts.Endings es) e h = first_of_all es h
 around_stands false false (parts.Endings es) e h = h
-around_stands b c (parts.Items is) e h = tt
+around_stands b c _ e h = tt
 
 plain_stands : (p : Part) → PlainIf false p
-plain_stands (parts.Token l) = tt
-plain_stands parts.Counted = tt
-plain_stands (parts.Values ds raw) = tt
 plain_stands (parts.Endings es) = tt
-plain_stands (parts.Items is) = tt
+plain_stands _ = tt
 
 three : (a b c : Bool) → (a && (b && c)) ≡ true → (a ≡ true) × (b ≡ true) × (c ≡ true)
 three true true true e = (refl, refl, refl)
-three true true false e = absurd cc
-three true false c e = absurd cc
-three false b c e = absurd cc
+three _ _ _ e = absurd cc
 
 stands_for : (s x : Symbol) (p : Part) → Head s → may_stand s x ≡ true → Suits x p → Suits s p
 stands_for s x p head may suits =
@@ -209,45 +176,18 @@ by_expression x ds raw e h = subst (λ b. SmallIf b raw ds) e h
 
 operand_tail : (x y : Symbol) (outer : List Symbol) (ps : List Part) → is_statement x ≡ false → Laid (x ∷ y ∷ outer) ps → Holds (λ g. SmallIf false g.0.raw g.0.values) (gathered unlimited (steps.Operand ∷ steps.Tail ∷ []) no_work ps)
 unfolding operand tail
-operand_tail x y outer [] e laid = tt
-operand_tail x y outer (parts.Token l ∷ ps) e laid = tt
-operand_tail x y outer (parts.Counted ∷ ps) e laid = tt
-operand_tail x y outer (parts.Endings es ∷ ps) e laid = tt
-operand_tail x y outer (parts.Items is ∷ ps) e laid = tt
-operand_tail x y outer (parts.Values ds raw ∷ []) e laid = tt
-operand_tail x y outer (parts.Values ds raw ∷ parts.Token l ∷ ps) e laid = tt
-operand_tail x y outer (parts.Values ds raw ∷ parts.Counted ∷ ps) e laid = tt
-operand_tail x y outer (parts.Values ds raw ∷ parts.Values es r ∷ ps) e laid = tt
-operand_tail x y outer (parts.Values ds raw ∷ parts.Items is ∷ ps) e laid = tt
 operand_tail x y outer (parts.Values ds raw ∷ parts.Endings es ∷ ps) e laid = by_expression x ds raw e laid.0.small
+operand_tail x y outer _ e laid = tt
 
 operand_put : (x y : Symbol) (outer : List Symbol) (ps : List Part) → is_statement x ≡ false → Laid (x ∷ y ∷ outer) ps → Holds (λ g. SmallIf false g.0.raw g.0.held) (gathered unlimited (steps.Operand ∷ steps.Hold ∷ steps.Put ∷ []) no_work ps)
 unfolding operand hold put
-operand_put x y outer [] e laid = tt
-operand_put x y outer (parts.Token l ∷ ps) e laid = tt
-operand_put x y outer (parts.Counted ∷ ps) e laid = tt
-operand_put x y outer (parts.Endings es ∷ ps) e laid = tt
-operand_put x y outer (parts.Items is ∷ ps) e laid = tt
-operand_put x y outer (parts.Values ds raw ∷ []) e laid = tt
-operand_put x y outer (parts.Values ds raw ∷ parts.Token l ∷ ps) e laid = tt
-operand_put x y outer (parts.Values ds raw ∷ parts.Counted ∷ ps) e laid = tt
-operand_put x y outer (parts.Values ds raw ∷ parts.Endings es ∷ ps) e laid = tt
-operand_put x y outer (parts.Values ds raw ∷ parts.Items is ∷ ps) e laid = tt
 operand_put x y outer (parts.Values ds raw ∷ parts.Values es r ∷ ps) e laid = by_expression x ds raw e laid.0.small
+operand_put x y outer _ e laid = tt
 
 operand_rest : (outer : List Symbol) (ps : List Part) → Laid (symbols.Item ∷ symbols.Items ∷ outer) ps → Holds (λ g. SmallIf true g.0.raw g.0.values × RawItems g.0.items) (gathered unlimited (steps.Operand ∷ steps.Rest ∷ []) no_work ps)
 unfolding operand rest
-operand_rest outer [] laid = tt
-operand_rest outer (parts.Token l ∷ ps) laid = tt
-operand_rest outer (parts.Counted ∷ ps) laid = tt
-operand_rest outer (parts.Endings es ∷ ps) laid = tt
-operand_rest outer (parts.Items is ∷ ps) laid = tt
-operand_rest outer (parts.Values ds raw ∷ []) laid = tt
-operand_rest outer (parts.Values ds raw ∷ parts.Token l ∷ ps) laid = tt
-operand_rest outer (parts.Values ds raw ∷ parts.Counted ∷ ps) laid = tt
-operand_rest outer (parts.Values ds raw ∷ parts.Endings es ∷ ps) laid = tt
-operand_rest outer (parts.Values ds raw ∷ parts.Values es r ∷ ps) laid = tt
 operand_rest outer (parts.Values ds raw ∷ parts.Items is ∷ ps) laid = (laid.0.small, laid.1.0.small)
+operand_rest outer _ laid = tt
 
 small_all : (raw : Option NameId) (ds : Data) → depth_in ds ≤ 1 → SmallIf false raw ds
 small_all None ds h = tt
@@ -255,9 +195,6 @@ small_all (Some n) ds h = h
 
 string_depth : (n : ℕ) → depth_in (one (child (branch kinds.LiteralStringExpression (one (name n))))) ≤ 1
 string_depth n = omega arith
-
-any : {A : Type 0} (r : Result A Fault) → Holds (λ x. Unit {0}) r
-any r = each_result (λ x. Unit {0}) r (λ x e. tt)
 
 abbrev SmallGot : Work × List Part → Type 0
 SmallGot r = SmallIf false r.0.raw r.0.values
@@ -306,15 +243,7 @@ text_tail x y outer ps laid =
 
 next_expression : (n : Level) (m : Mode) → is_statement (next_level n m) ≡ false
 next_expression levels.LogicalOr m = refl
-next_expression levels.LogicalAnd m = refl
-next_expression levels.BitwiseOr m = refl
-next_expression levels.BitwiseXor m = refl
-next_expression levels.BitwiseAnd m = refl
-next_expression levels.Equality m = refl
-next_expression levels.Relational m = refl
-next_expression levels.Shift m = refl
-next_expression levels.Additive m = refl
-next_expression levels.Multiplicative m = refl
+next_expression _ m = refl
 
 -- a row without a raw text
 abbrev is_free : Finish → Bool
@@ -385,160 +314,4 @@ raw_row rows.PrimaryText outer ps may laid = one_string ps
 raw_row rows.PropGet outer ps may laid = text_tail _ _ outer ps laid
 raw_row rows.PropSet outer ps may laid = text_tail _ _ outer ps laid
 raw_row rows.PropIdent outer ps may laid = text_tail _ _ outer ps laid
-raw_row rows.Script outer ps may laid = plain_row rows.Script outer ps may refl laid
-raw_row rows.ItemsEmpty outer ps may laid = plain_row rows.ItemsEmpty outer ps may refl laid
-raw_row rows.ItemFunction outer ps may laid = plain_row rows.ItemFunction outer ps may refl laid
-raw_row rows.ItemLexical outer ps may laid = plain_row rows.ItemLexical outer ps may refl laid
-raw_row rows.ItemStat outer ps may laid = plain_row rows.ItemStat outer ps may refl laid
-raw_row rows.LexicalLet outer ps may laid = plain_row rows.LexicalLet outer ps may refl laid
-raw_row rows.LexicalConst outer ps may laid = plain_row rows.LexicalConst outer ps may refl laid
-raw_row (rows.Decls m) outer ps may laid = plain_row (rows.Decls m) outer ps may refl laid
-raw_row (rows.DeclTail m) outer ps may laid = plain_row (rows.DeclTail m) outer ps may refl laid
-raw_row (rows.DeclTailEmpty m) outer ps may laid = plain_row (rows.DeclTailEmpty m) outer ps may refl laid
-raw_row (rows.Decl m) outer ps may laid = plain_row (rows.Decl m) outer ps may refl laid
-raw_row (rows.Init m) outer ps may laid = plain_row (rows.Init m) outer ps may refl laid
-raw_row (rows.InitEmpty m) outer ps may laid = plain_row (rows.InitEmpty m) outer ps may refl laid
-raw_row rows.Function outer ps may laid = plain_row rows.Function outer ps may refl laid
-raw_row rows.Params outer ps may laid = plain_row rows.Params outer ps may refl laid
-raw_row rows.ParamsRest outer ps may laid = plain_row rows.ParamsRest outer ps may refl laid
-raw_row rows.ParamsEmpty outer ps may laid = plain_row rows.ParamsEmpty outer ps may refl laid
-raw_row rows.ParamTail outer ps may laid = plain_row rows.ParamTail outer ps may refl laid
-raw_row rows.ParamTailEmpty outer ps may laid = plain_row rows.ParamTailEmpty outer ps may refl laid
-raw_row rows.ParamNext outer ps may laid = plain_row rows.ParamNext outer ps may refl laid
-raw_row rows.ParamNextRest outer ps may laid = plain_row rows.ParamNextRest outer ps may refl laid
-raw_row rows.Body outer ps may laid = plain_row rows.Body outer ps may refl laid
-raw_row rows.StatBlock outer ps may laid = plain_row rows.StatBlock outer ps may refl laid
-raw_row rows.StatVar outer ps may laid = plain_row rows.StatVar outer ps may refl laid
-raw_row rows.StatEmpty outer ps may laid = plain_row rows.StatEmpty outer ps may refl laid
-raw_row rows.StatDebugger outer ps may laid = plain_row rows.StatDebugger outer ps may refl laid
-raw_row rows.StatIf outer ps may laid = plain_row rows.StatIf outer ps may refl laid
-raw_row rows.StatFor outer ps may laid = plain_row rows.StatFor outer ps may refl laid
-raw_row rows.StatWhile outer ps may laid = plain_row rows.StatWhile outer ps may refl laid
-raw_row rows.StatDo outer ps may laid = plain_row rows.StatDo outer ps may refl laid
-raw_row rows.StatContinue outer ps may laid = plain_row rows.StatContinue outer ps may refl laid
-raw_row rows.StatBreak outer ps may laid = plain_row rows.StatBreak outer ps may refl laid
-raw_row rows.StatReturn outer ps may laid = plain_row rows.StatReturn outer ps may refl laid
-raw_row rows.StatThrow outer ps may laid = plain_row rows.StatThrow outer ps may refl laid
-raw_row rows.StatSwitch outer ps may laid = plain_row rows.StatSwitch outer ps may refl laid
-raw_row rows.StatTry outer ps may laid = plain_row rows.StatTry outer ps may refl laid
-raw_row rows.Block outer ps may laid = plain_row rows.Block outer ps may refl laid
-raw_row rows.Else outer ps may laid = plain_row rows.Else outer ps may refl laid
-raw_row rows.ElseEmpty outer ps may laid = plain_row rows.ElseEmpty outer ps may refl laid
-raw_row rows.DoEnd outer ps may laid = plain_row rows.DoEnd outer ps may refl laid
-raw_row rows.DoEndEmpty outer ps may laid = plain_row rows.DoEndEmpty outer ps may refl laid
-raw_row rows.JumpLabel outer ps may laid = plain_row rows.JumpLabel outer ps may refl laid
-raw_row rows.JumpPlain outer ps may laid = plain_row rows.JumpPlain outer ps may refl laid
-raw_row rows.RetExpr outer ps may laid = plain_row rows.RetExpr outer ps may refl laid
-raw_row rows.RetPlain outer ps may laid = plain_row rows.RetPlain outer ps may refl laid
-raw_row rows.Throw outer ps may laid = plain_row rows.Throw outer ps may refl laid
-raw_row rows.LabelBody outer ps may laid = plain_row rows.LabelBody outer ps may refl laid
-raw_row rows.LabelSemi outer ps may laid = plain_row rows.LabelSemi outer ps may refl laid
-raw_row rows.ForHeadVar outer ps may laid = plain_row rows.ForHeadVar outer ps may refl laid
-raw_row rows.ForHeadLet outer ps may laid = plain_row rows.ForHeadLet outer ps may refl laid
-raw_row rows.ForHeadConst outer ps may laid = plain_row rows.ForHeadConst outer ps may refl laid
-raw_row rows.ForHeadEmpty outer ps may laid = plain_row rows.ForHeadEmpty outer ps may refl laid
-raw_row rows.ForHeadExpr outer ps may laid = plain_row rows.ForHeadExpr outer ps may refl laid
-raw_row rows.ForBindIn outer ps may laid = plain_row rows.ForBindIn outer ps may refl laid
-raw_row rows.ForBindOf outer ps may laid = plain_row rows.ForBindOf outer ps may refl laid
-raw_row rows.ForBindInit outer ps may laid = plain_row rows.ForBindInit outer ps may refl laid
-raw_row rows.ForExprIn outer ps may laid = plain_row rows.ForExprIn outer ps may refl laid
-raw_row rows.ForExprOf outer ps may laid = plain_row rows.ForExprOf outer ps may refl laid
-raw_row rows.ForExprRest outer ps may laid = plain_row rows.ForExprRest outer ps may refl laid
-raw_row rows.ForRest outer ps may laid = plain_row rows.ForRest outer ps may refl laid
-raw_row rows.ExprOpt outer ps may laid = plain_row rows.ExprOpt outer ps may refl laid
-raw_row rows.ExprOptEmpty outer ps may laid = plain_row rows.ExprOptEmpty outer ps may refl laid
-raw_row rows.CasesCase outer ps may laid = plain_row rows.CasesCase outer ps may refl laid
-raw_row rows.CasesDefault outer ps may laid = plain_row rows.CasesDefault outer ps may refl laid
-raw_row rows.CasesEmpty outer ps may laid = plain_row rows.CasesEmpty outer ps may refl laid
-raw_row rows.CasesDCase outer ps may laid = plain_row rows.CasesDCase outer ps may refl laid
-raw_row rows.CasesDEmpty outer ps may laid = plain_row rows.CasesDEmpty outer ps may refl laid
-raw_row rows.TryRestCatch outer ps may laid = plain_row rows.TryRestCatch outer ps may refl laid
-raw_row rows.TryRestFinally outer ps may laid = plain_row rows.TryRestFinally outer ps may refl laid
-raw_row rows.Fin outer ps may laid = plain_row rows.Fin outer ps may refl laid
-raw_row rows.FinEmpty outer ps may laid = plain_row rows.FinEmpty outer ps may refl laid
-raw_row (rows.Comma m) outer ps may laid = plain_row (rows.Comma m) outer ps may refl laid
-raw_row (rows.CommaEmpty m) outer ps may laid = plain_row (rows.CommaEmpty m) outer ps may refl laid
-raw_row (rows.AssignTailEquals m) outer ps may laid = plain_row (rows.AssignTailEquals m) outer ps may refl laid
-raw_row (rows.AssignTailCompound m) outer ps may laid = plain_row (rows.AssignTailCompound m) outer ps may refl laid
-raw_row (rows.AssignTailArrow m) outer ps may laid = plain_row (rows.AssignTailArrow m) outer ps may refl laid
-raw_row (rows.AssignTailEmpty m) outer ps may laid = plain_row (rows.AssignTailEmpty m) outer ps may refl laid
-raw_row (rows.ArrowBody m) outer ps may laid = plain_row (rows.ArrowBody m) outer ps may refl laid
-raw_row (rows.ArrowExpr m) outer ps may laid = plain_row (rows.ArrowExpr m) outer ps may refl laid
-raw_row (rows.CondTail m) outer ps may laid = plain_row (rows.CondTail m) outer ps may refl laid
-raw_row (rows.CondTailEmpty m) outer ps may laid = plain_row (rows.CondTailEmpty m) outer ps may refl laid
-raw_row (rows.LevelTail n m) outer ps may laid = plain_row (rows.LevelTail n m) outer ps may refl laid
-raw_row (rows.LevelTailEmpty n m) outer ps may laid = plain_row (rows.LevelTailEmpty n m) outer ps may refl laid
-raw_row rows.UnaryOperator outer ps may laid = plain_row rows.UnaryOperator outer ps may refl laid
-raw_row rows.UnaryIncrement outer ps may laid = plain_row rows.UnaryIncrement outer ps may refl laid
-raw_row rows.UnaryDecrement outer ps may laid = plain_row rows.UnaryDecrement outer ps may refl laid
-raw_row rows.PostIncrement outer ps may laid = plain_row rows.PostIncrement outer ps may refl laid
-raw_row rows.PostDecrement outer ps may laid = plain_row rows.PostDecrement outer ps may refl laid
-raw_row rows.PostEmpty outer ps may laid = plain_row rows.PostEmpty outer ps may refl laid
-raw_row rows.LhsTailAccess outer ps may laid = plain_row rows.LhsTailAccess outer ps may refl laid
-raw_row rows.LhsTailCall outer ps may laid = plain_row rows.LhsTailCall outer ps may refl laid
-raw_row rows.LhsTailEmpty outer ps may laid = plain_row rows.LhsTailEmpty outer ps may refl laid
-raw_row rows.Again outer ps may laid = plain_row rows.Again outer ps may refl laid
-raw_row rows.AccessName outer ps may laid = plain_row rows.AccessName outer ps may refl laid
-raw_row rows.AccessIndex outer ps may laid = plain_row rows.AccessIndex outer ps may refl laid
-raw_row rows.New outer ps may laid = plain_row rows.New outer ps may refl laid
-raw_row rows.CalleeNew outer ps may laid = plain_row rows.CalleeNew outer ps may refl laid
-raw_row rows.CalleePrimary outer ps may laid = plain_row rows.CalleePrimary outer ps may refl laid
-raw_row rows.MemberTail outer ps may laid = plain_row rows.MemberTail outer ps may refl laid
-raw_row rows.MemberTailEmpty outer ps may laid = plain_row rows.MemberTailEmpty outer ps may refl laid
-raw_row rows.NewArgs outer ps may laid = plain_row rows.NewArgs outer ps may refl laid
-raw_row rows.NewArgsEmpty outer ps may laid = plain_row rows.NewArgsEmpty outer ps may refl laid
-raw_row rows.Args outer ps may laid = plain_row rows.Args outer ps may refl laid
-raw_row rows.ArgsEmpty outer ps may laid = plain_row rows.ArgsEmpty outer ps may refl laid
-raw_row rows.ArgMore outer ps may laid = plain_row rows.ArgMore outer ps may refl laid
-raw_row rows.ArgMoreEmpty outer ps may laid = plain_row rows.ArgMoreEmpty outer ps may refl laid
-raw_row rows.ArgSpread outer ps may laid = plain_row rows.ArgSpread outer ps may refl laid
-raw_row rows.ArgPlain outer ps may laid = plain_row rows.ArgPlain outer ps may refl laid
-raw_row rows.PrimaryThis outer ps may laid = plain_row rows.PrimaryThis outer ps may refl laid
-raw_row rows.PrimaryNull outer ps may laid = plain_row rows.PrimaryNull outer ps may refl laid
-raw_row rows.PrimaryTrue outer ps may laid = plain_row rows.PrimaryTrue outer ps may refl laid
-raw_row rows.PrimaryFalse outer ps may laid = plain_row rows.PrimaryFalse outer ps may refl laid
-raw_row rows.PrimaryNumber outer ps may laid = plain_row rows.PrimaryNumber outer ps may refl laid
-raw_row rows.PrimaryIdent outer ps may laid = plain_row rows.PrimaryIdent outer ps may refl laid
-raw_row rows.PrimaryHead outer ps may laid = plain_row rows.PrimaryHead outer ps may refl laid
-raw_row rows.PrimaryParens outer ps may laid = plain_row rows.PrimaryParens outer ps may refl laid
-raw_row rows.PrimaryArray outer ps may laid = plain_row rows.PrimaryArray outer ps may refl laid
-raw_row rows.PrimaryObject outer ps may laid = plain_row rows.PrimaryObject outer ps may refl laid
-raw_row rows.PrimaryWhole outer ps may laid = plain_row rows.PrimaryWhole outer ps may refl laid
-raw_row rows.PrimaryTemplate outer ps may laid = plain_row rows.PrimaryTemplate outer ps may refl laid
-raw_row rows.PrimaryFunction outer ps may laid = plain_row rows.PrimaryFunction outer ps may refl laid
-raw_row rows.FuncName outer ps may laid = plain_row rows.FuncName outer ps may refl laid
-raw_row rows.FuncNameEmpty outer ps may laid = plain_row rows.FuncNameEmpty outer ps may refl laid
-raw_row rows.ElemsHole outer ps may laid = plain_row rows.ElemsHole outer ps may refl laid
-raw_row rows.ElemsArg outer ps may laid = plain_row rows.ElemsArg outer ps may refl laid
-raw_row rows.ElemsEmpty outer ps may laid = plain_row rows.ElemsEmpty outer ps may refl laid
-raw_row rows.ElemMore outer ps may laid = plain_row rows.ElemMore outer ps may refl laid
-raw_row rows.ElemMoreEmpty outer ps may laid = plain_row rows.ElemMoreEmpty outer ps may refl laid
-raw_row rows.Props outer ps may laid = plain_row rows.Props outer ps may refl laid
-raw_row rows.PropsEmpty outer ps may laid = plain_row rows.PropsEmpty outer ps may refl laid
-raw_row rows.PropMore outer ps may laid = plain_row rows.PropMore outer ps may refl laid
-raw_row rows.PropMoreEmpty outer ps may laid = plain_row rows.PropMoreEmpty outer ps may refl laid
-raw_row rows.PropReserved outer ps may laid = plain_row rows.PropReserved outer ps may refl laid
-raw_row rows.PropText outer ps may laid = plain_row rows.PropText outer ps may refl laid
-raw_row rows.PropNumber outer ps may laid = plain_row rows.PropNumber outer ps may refl laid
-raw_row rows.PropComputed outer ps may laid = plain_row rows.PropComputed outer ps may refl laid
-raw_row rows.LongValue outer ps may laid = plain_row rows.LongValue outer ps may refl laid
-raw_row rows.LongMethod outer ps may laid = plain_row rows.LongMethod outer ps may refl laid
-raw_row rows.ShortValue outer ps may laid = plain_row rows.ShortValue outer ps may refl laid
-raw_row rows.ShortMethod outer ps may laid = plain_row rows.ShortMethod outer ps may refl laid
-raw_row rows.ShortEmpty outer ps may laid = plain_row rows.ShortEmpty outer ps may refl laid
-raw_row rows.GetRestValue outer ps may laid = plain_row rows.GetRestValue outer ps may refl laid
-raw_row rows.GetRestMethod outer ps may laid = plain_row rows.GetRestMethod outer ps may refl laid
-raw_row rows.GetRestGetter outer ps may laid = plain_row rows.GetRestGetter outer ps may refl laid
-raw_row rows.GetRestEmpty outer ps may laid = plain_row rows.GetRestEmpty outer ps may refl laid
-raw_row rows.SetRestValue outer ps may laid = plain_row rows.SetRestValue outer ps may refl laid
-raw_row rows.SetRestMethod outer ps may laid = plain_row rows.SetRestMethod outer ps may refl laid
-raw_row rows.SetRestSetter outer ps may laid = plain_row rows.SetRestSetter outer ps may refl laid
-raw_row rows.SetRestEmpty outer ps may laid = plain_row rows.SetRestEmpty outer ps may refl laid
-raw_row rows.Method outer ps may laid = plain_row rows.Method outer ps may refl laid
-raw_row rows.PropNameName outer ps may laid = plain_row rows.PropNameName outer ps may refl laid
-raw_row rows.PropNameText outer ps may laid = plain_row rows.PropNameText outer ps may refl laid
-raw_row rows.PropNameNumber outer ps may laid = plain_row rows.PropNameNumber outer ps may refl laid
-raw_row rows.PropNameComputed outer ps may laid = plain_row rows.PropNameComputed outer ps may refl laid
-raw_row rows.TplRest outer ps may laid = plain_row rows.TplRest outer ps may refl laid
-raw_row rows.TplMoreMiddle outer ps may laid = plain_row rows.TplMoreMiddle outer ps may refl laid
-raw_row rows.TplMoreTail outer ps may laid = plain_row rows.TplMoreTail outer ps may refl laid
+raw_row r outer ps may laid = plain_row r outer ps may refl laid

@@ -6,7 +6,7 @@ use Rattle.bast_schema.specs.declared.kind.Kind.{Kind}
 use Rattle.bast_schema.specs.declared.kind.Kind.TheVariants as kinds
 use Rattle.bast_schema.specs.Counts.{join}
 use Rattle.bast_schema.specs.Kinds.{same_kind, counted}
-use Rattle.bast_schema.specs.Tree.{Tree, branch, Datum, child, absent, listed, flag, index, whole, name, no_name, choice, window, Data, none, more, depth, depth_at, depth_in}
+use Rattle.bast_schema.specs.Tree.{Tree, branch, Datum, child, absent, listed, name, Data, none, more, depth, depth_at, depth_in}
 use Rattle.js_grammar.specs.declared.symbols.Symbol.{Symbol}
 use Rattle.scope_facts.specs.Bare.{empty_fields}
 use Rattle.scope_facts.specs.Roles.{shape_of}
@@ -166,15 +166,7 @@ one_node_follows C ds =
   where
     by_node : (C : Type 0) (d : Datum) (ds : Data) → ds ≡ one d → Follows (C × (depth_at d ≤ 512)) (λ t. C × Flat t) (λ t. ds ≡ one (child t)) (node_in d) (node_in d)
     by_node C (child t) ds j = done _ _ _ t (λ h. h) j
-    by_node C absent ds j = failed _ _ _
-    by_node C (listed es) ds j = failed _ _ _
-    by_node C (flag b) ds j = failed _ _ _
-    by_node C (index n) ds j = failed _ _ _
-    by_node C (whole n) ds j = failed _ _ _
-    by_node C (name n) ds j = failed _ _ _
-    by_node C no_name ds j = failed _ _ _
-    by_node C (choice n) ds j = failed _ _ _
-    by_node C (window from to) ds j = failed _ _ _
+    by_node C _ ds j = failed _ _ _
 
 none_left : (f : Ending) (fs : List Ending) → length (f ∷ fs) ≡ 0 → ⊥
 none_left f fs e = omega arith

@@ -1,5 +1,5 @@
 -- The tree with the limit follows the one without it.
-use Rattle.std.proofs.Common.{◌≡◌, ◌≤◌, ◌<◌, ◌==◌, ℕ, zero, suc, Bool, true, false, not, ◌&&◌, length, List, [], ◌∷◌, ◌++◌, reverse, Result, Ok, Err, refl, sym, subst, arith}
+use Rattle.std.proofs.Common.{◌≡◌, ◌≤◌, ◌<◌, ◌==◌, ℕ, Bool, true, not, ◌&&◌, length, List, [], ◌∷◌, ◌++◌, reverse, Result, Ok, Err, refl, sym, subst, arith}
 use Rattle.std.specs.List.{Contains, list_all}
 use Rattle.bast_schema.specs.Tree.{Tree, depth}
 use Rattle.js_grammar.specs.Rows.{alternatives, row_symbols}
@@ -25,7 +25,7 @@ use Rattle.js_tree.specs.declared.leaf.Leaf.{Leaf}
 use Rattle.js_tree.specs.declared.parts.Part.{Part}
 use Rattle.js_tree.specs.declared.parts.Part.TheVariants as parts
 use Rattle.js_tree.specs.declared.work.Work.{Work}
-use Rattle.js_tree.proofs.Holding.{Holds, each_result, HoldsParts}
+use Rattle.js_tree.proofs.Holding.{Holds, any, is_not, each_row, HoldsParts}
 use Rattle.js_tree.proofs.Gathering.{Got, all_got}
 use Rattle.js_tree.proofs.Finishing.{HoldsState, image_held, nothing, row_makes}
 use Rattle.js_tree.proofs.Following.{Follows, Agrees, Unrefused, alike, done, failed, known, weaker, andthen, mapped, Flat, FlatIn, FlatParts, FlatWork, FlatGot}
@@ -45,39 +45,8 @@ is_sound s r =
 
 all_sound : (s : Symbol) → list_all (is_sound s) (alternatives s) ≡ true
 all_sound (symbols.Level levels.LogicalOr m) = refl
-all_sound (symbols.Level levels.LogicalAnd m) = refl
-all_sound (symbols.Level levels.BitwiseOr m) = refl
-all_sound (symbols.Level levels.BitwiseXor m) = refl
-all_sound (symbols.Level levels.BitwiseAnd m) = refl
-all_sound (symbols.Level levels.Equality m) = refl
-all_sound (symbols.Level levels.Relational m) = refl
-all_sound (symbols.Level levels.Shift m) = refl
-all_sound (symbols.Level levels.Additive m) = refl
-all_sound (symbols.Level levels.Multiplicative m) = refl
 all_sound (symbols.LevelTail levels.LogicalOr m) = refl
-all_sound (symbols.LevelTail levels.LogicalAnd m) = refl
-all_sound (symbols.LevelTail levels.BitwiseOr m) = refl
-all_sound (symbols.LevelTail levels.BitwiseXor m) = refl
-all_sound (symbols.LevelTail levels.BitwiseAnd m) = refl
-all_sound (symbols.LevelTail levels.Equality m) = refl
-all_sound (symbols.LevelTail levels.Relational m) = refl
-all_sound (symbols.LevelTail levels.Shift m) = refl
-all_sound (symbols.LevelTail levels.Additive m) = refl
-all_sound (symbols.LevelTail levels.Multiplicative m) = refl
 all_sound _ = refl
-
-first_of_both : (a b : Bool) → (a && b) ≡ true → a ≡ true
-first_of_both true b e = refl
-first_of_both false b e = e
-
-second_of_both : (a b : Bool) → (a && b) ≡ true → b ≡ true
-second_of_both true b e = e
-second_of_both false b e = absurd cc
-
-each_sound : (p : RowId → Bool) (rs : List RowId) (r : RowId) → list_all p rs ≡ true → Contains rs r → p r ≡ true
-each_sound p [] r all (k, below, is) = absurd (omega arith)
-each_sound p (q ∷ rs) r all (zero, below, is) = subst (λ r. p r ≡ true) is (first_of_both (p q) (list_all p rs) all)
-each_sound p (q ∷ rs) r all (suc k, below, is) = each_sound p rs r (second_of_both (p q) (list_all p rs) all) (k, omega arith, is)
 
 pub record Sound (s : Symbol) (r : RowId) : Type 0 where
   pub no_leaf : not (is_leaf s) ≡ true
@@ -88,21 +57,13 @@ pub record Sound (s : Symbol) (r : RowId) : Type 0 where
 
 five : (a b c d e : Bool) → (a && (b && (c && (d && e)))) ≡ true → (a ≡ true) × (b ≡ true) × (c ≡ true) × (d ≡ true) × (e ≡ true)
 five true true true true true h = (refl, refl, refl, refl, refl)
-five true true true true false h = absurd cc
-five true true true false e h = absurd cc
-five true true false d e h = absurd cc
-five true false c d e h = absurd cc
-five false b c d e h = absurd cc
+five _ _ _ _ _ h = absurd cc
 
 sound : (s : Symbol) (r : RowId) → Contains (alternatives s) r → Sound s r
 sound s r c =
     let m = five (not (is_leaf s)) (may_all (recipe r).0 (row_symbols r) no_flow) (may_finish (recipe r).1 (after_all (recipe r).0 (row_symbols r) no_flow)) (may_head s (recipe r).1 (after_all (recipe r).0 (row_symbols r) no_flow)) (may_leave s (recipe r).1 (left_by_all (recipe r).0 (row_symbols r)))
-    (each_sound (is_sound s) (alternatives s) r (all_sound s) c)
+    (each_row (is_sound s) (alternatives s) r (all_sound s) c)
     in record { no_leaf = m.0; may = m.1; ends = m.2; top = m.3; leaves = m.4 }
-
-no_leaf_is : (b : Bool) → not b ≡ true → b ≡ false
-no_leaf_is true e = sym e
-no_leaf_is false e = refl
 
 both_hold : {A : Type 0} (Q R : A → Type 0) (r : Result A Fault) → Holds Q r → Holds R r → Holds (λ x. Q x × R x) r
 both_hold Q R (Ok x) h k = (h, k)
@@ -124,7 +85,7 @@ row_follows s r outer ps ok laid idents =
     (weaker (FlatGot (no_work, ps)) (FlatParts ps) FlatGot (RowGot r outer) (gathered limited (recipe r).0 no_work ps) (gathered unlimited (recipe r).0 no_work ps) (λ h. h.1)
     (known (FlatGot (no_work, ps)) FlatGot (Stepped (after_all (recipe r).0 (row_symbols r) no_flow) (left_by_all (recipe r).0 (row_symbols r) ++ outer)) (RowGot r outer) (gathered limited (recipe r).0 no_work ps) (gathered unlimited (recipe r).0 no_work ps)
     (both_hold (Stepped (after_all (recipe r).0 (row_symbols r) no_flow) (left_by_all (recipe r).0 (row_symbols r) ++ outer)) (λ x. Got IsIdent x × RawRow r x) (gathered unlimited (recipe r).0 no_work ps) g.fact (both_hold (Got IsIdent) (RawRow r) (gathered unlimited (recipe r).0 no_work ps) i w)) g))
-    (λ x k. finish_follows (recipe r).1 s (after_all (recipe r).0 (row_symbols r) no_flow) (left_by_all (recipe r).0 (row_symbols r)) outer x.0 x.1 ok.ends ok.top ok.leaves (record { no_leaf = no_leaf_is (is_leaf s) ok.no_leaf }) k.0.0 k.1.0.0 k.1.1 k.0.1)
+    (λ x k. finish_follows (recipe r).1 s (after_all (recipe r).0 (row_symbols r) no_flow) (left_by_all (recipe r).0 (row_symbols r)) outer x.0 x.1 ok.ends ok.top ok.leaves (record { no_leaf = is_not (is_leaf s) ok.no_leaf }) k.0.0 k.1.0.0 k.1.1 k.0.1)
 
 abbrev FlatState : List Leaf × List Part → Type 0
 FlatState s = FlatParts s.1
@@ -176,7 +137,7 @@ root_follows s (parts.Values ds raw ∷ ps) laid =
     either_follows (FlatParts (parts.Values ds raw ∷ ps)) Flat (λ t. Unit {0}) (length ps == 0) (one_node ds) (one_node ds) broken broken
     (λ e. alike (FlatParts (parts.Values ds raw ∷ ps)) Flat (λ t. Unit {0}) (one_node ds) (one_node_follows (Unit {0}) ds).unrefused
     (mapped (λ t. Unit {0} × Flat t → Unit {0} × FlatIn ds) (λ t. Flat t → FlatParts (parts.Values ds raw ∷ ps)) (one_node ds) (λ t f flat. ((f (tt, flat)).1, none_more ps laid.1)) (one_node_follows (Unit {0}) ds).back)
-    (each_result (λ t. Unit {0}) (one_node ds) (λ t e. tt)))
+    (any (one_node ds)))
     (λ e. failed _ _ _)
 
 tree_follows : (es : List Event) (ls : List Leaf) → Leads (symbols.Script ∷ []) es → Follows (Unit {0}) Flat (λ t. Unit {0}) (tree_of limited ls es) (tree_of unlimited ls es)

@@ -52,9 +52,7 @@ left_follows C how b (forms.Declared ds) =
     (weaker ((C × FlatIn f.1) × FlatIn (two b f.0)) ((C × (depth_at b ≤ 512)) × (depth_at f.0 ≤ 512) × FlatIn f.1) (λ d. (C × FlatIn f.1) × Flat d) (λ d. branch kinds.VariableDeclarator (two b f.0) ≡ d) (limited kinds.VariableDeclarator (two b f.0)) (unlimited kinds.VariableDeclarator (two b f.0))
     (λ h. let a : depth_in (two b f.0) ≤ 512 = h.1 in ((h.0.0, omega (arith, a)), omega (arith, a), h.0.1)) (node_follows (C × FlatIn f.1) kinds.VariableDeclarator (two b f.0)))
     (λ d k. weaker (C × FlatIn (more (child d) f.1)) ((C × FlatIn f.1) × Flat d) (λ u. C × Flat u) (λ u. Unit {0}) _ _ (λ h. let a : depth_in (more (child d) f.1) ≤ 512 = h.1 in ((h.0, omega (arith, a)), omega (arith, a))) (declaration_follows C how (more (child d) f.1)))))
-left_follows C how b forms.Parameters = failed _ _ _
-left_follows C how b (forms.Contents body) = failed _ _ _
-left_follows C how b forms.Label = failed _ _ _
+left_follows C how b _ = failed _ _ _
 
 bound_finish : (s : Symbol) (outer : List Symbol) (how : Declared) (b : Datum) (e : Ending) (ps : List Part) → is_plain s ≡ false → Head s → Laid outer ps → Finishes s outer (FlatParts ps × (depth_at b ≤ 512) × FlatEnding e) (bound limited how b e ps) (bound unlimited how b e ps)
 bound_finish s outer how b (endings.Around k form before behind) ps np head laid =

@@ -5,7 +5,7 @@ use Rattle.bast_schema.specs.declared.kind.EnumId.{EnumId}
 use Rattle.bast_schema.specs.declared.kind.Kind.{Kind}
 use Rattle.bast_schema.specs.declared.kind.Kind.TheVariants as kinds
 use Rattle.bast_schema.specs.Counts.{join}
-use Rattle.bast_schema.specs.Tree.{Tree, branch, Datum, child, absent, listed, flag, index, whole, name, no_name, choice, window, Data, none, more, depth, depth_at, depth_in}
+use Rattle.bast_schema.specs.Tree.{Tree, branch, Datum, child, absent, listed, flag, whole, name, no_name, choice, Data, none, more, depth, depth_at, depth_in}
 use Rattle.js_grammar.specs.declared.symbols.Symbol.{Symbol}
 use Rattle.js_tokens.specs.declared.kinds.TokenKind.{TokenKind}
 use Rattle.js_tokens.specs.declared.kinds.TokenKind.TheVariants as tokens
@@ -23,7 +23,7 @@ use Rattle.js_tree.specs.declared.parts.Item.{Item}
 use Rattle.js_tree.specs.declared.recipe.Step.{Step}
 use Rattle.js_tree.specs.declared.recipe.Step.TheVariants as steps
 use Rattle.js_tree.specs.declared.work.Work.{Work}
-use Rattle.js_tree.proofs.Holding.{each_result}
+use Rattle.js_tree.proofs.Holding.{each_result, both, is_not}
 use Rattle.js_tree.proofs.Following.{Follows, Unrefused, done, failed, alike, known, weaker, andthen, Flat, FlatIn, FlatEndings, FlatItems, FlatPart, FlatParts, FlatWork, FlatGot, flat_join, flat_endings, node_follows}
 use Rattle.js_tree.proofs.Laying.{AllPlain, AllAround, Arounds, is_accessor, PlainEnds, SmallTree, RawItems, LeafIf, is_plain, Laid, Flow, Empty, adds, with_raw, with_tail, with_rest, with_body, holds, resumes, may_step, left_by, after, may_all, left_by_all, after_all}
 
@@ -46,12 +46,8 @@ keep_number S (tokens.Number n) = keep S (Ok n) tt
 keep_number S _ = keep S broken tt
 
 pub leaf_follows : (C : Type 0) (x : Symbol) (xs : List Symbol) (ps : List Part) → Laid (x ∷ xs) ps → Follows (C × FlatParts ps) (λ l. C × FlatParts l.1) (λ l. Laid xs l.1) (taken_leaf ps) (taken_leaf ps)
-leaf_follows C x xs [] laid = failed _ _ _
 leaf_follows C x xs (parts.Token l ∷ ps) laid = done _ _ _ (l, ps) (λ h. (h.0, (tt, h.1))) laid.1
-leaf_follows C x xs (parts.Counted ∷ ps) laid = failed _ _ _
-leaf_follows C x xs (parts.Values ds raw ∷ ps) laid = failed _ _ _
-leaf_follows C x xs (parts.Endings es ∷ ps) laid = failed _ _ _
-leaf_follows C x xs (parts.Items is ∷ ps) laid = failed _ _ _
+leaf_follows C x xs _ laid = failed _ _ _
 
 abbrev FlatValues : Type 0 → (Data × Option NameId) × List Part → Type 0
 FlatValues C v = C × FlatIn v.0.0 × FlatParts v.1
@@ -60,12 +56,8 @@ abbrev KnownValues : List Symbol → (Data × Option NameId) × List Part → Ty
 KnownValues xs v = Laid xs v.1
 
 pub values_follows : (C : Type 0) (x : Symbol) (xs : List Symbol) (ps : List Part) → Laid (x ∷ xs) ps → Follows (C × FlatParts ps) (FlatValues C) (KnownValues xs) (taken_values ps) (taken_values ps)
-values_follows C x xs [] laid = failed _ _ _
-values_follows C x xs (parts.Token l ∷ ps) laid = failed _ _ _
-values_follows C x xs (parts.Counted ∷ ps) laid = failed _ _ _
 values_follows C x xs (parts.Values ds raw ∷ ps) laid = done _ _ _ ((ds, raw), ps) (λ h. (h.0, (h.1, h.2))) laid.1
-values_follows C x xs (parts.Endings es ∷ ps) laid = failed _ _ _
-values_follows C x xs (parts.Items is ∷ ps) laid = failed _ _ _
+values_follows C x xs _ laid = failed _ _ _
 
 abbrev FlatTaken : Type 0 → List Ending × List Part → Type 0
 FlatTaken C e = C × FlatEndings e.0 × FlatParts e.1
@@ -74,12 +66,8 @@ abbrev pub KnownEndings : Bool → Bool → List Symbol → List Ending × List 
 KnownEndings p a xs e = PlainEnds p e.0 × Arounds a e.0 × Laid xs e.1
 
 pub endings_follows : (C : Type 0) (x : Symbol) (xs : List Symbol) (ps : List Part) → Laid (x ∷ xs) ps → Follows (C × FlatParts ps) (FlatTaken C) (KnownEndings (is_plain x) (is_accessor x) xs) (taken_endings ps) (taken_endings ps)
-endings_follows C x xs [] laid = failed _ _ _
-endings_follows C x xs (parts.Token l ∷ ps) laid = failed _ _ _
-endings_follows C x xs (parts.Counted ∷ ps) laid = failed _ _ _
-endings_follows C x xs (parts.Values ds raw ∷ ps) laid = failed _ _ _
 endings_follows C x xs (parts.Endings es ∷ ps) laid = done _ _ _ (es, ps) (λ h. (h.0, (h.1, h.2))) (laid.0.plain, laid.0.around, laid.1)
-endings_follows C x xs (parts.Items is ∷ ps) laid = failed _ _ _
+endings_follows C x xs _ laid = failed _ _ _
 
 abbrev FlatList : Type 0 → List Item × List Part → Type 0
 FlatList C i = C × FlatItems i.0 × FlatParts i.1
@@ -88,12 +76,8 @@ abbrev KnownItems : List Symbol → List Item × List Part → Type 0
 KnownItems xs i = RawItems i.0 × Laid xs i.1
 
 items_follows : (C : Type 0) (x : Symbol) (xs : List Symbol) (ps : List Part) → Laid (x ∷ xs) ps → Follows (C × FlatParts ps) (FlatList C) (KnownItems xs) (taken_items ps) (taken_items ps)
-items_follows C x xs [] laid = failed _ _ _
-items_follows C x xs (parts.Token l ∷ ps) laid = failed _ _ _
-items_follows C x xs (parts.Counted ∷ ps) laid = failed _ _ _
-items_follows C x xs (parts.Values ds raw ∷ ps) laid = failed _ _ _
-items_follows C x xs (parts.Endings es ∷ ps) laid = failed _ _ _
 items_follows C x xs (parts.Items is ∷ ps) laid = done _ _ _ (is, ps) (λ h. (h.0, (h.1, h.2))) (laid.0.small, laid.1)
+items_follows C x xs _ laid = failed _ _ _
 
 pub first_follows : (C : Type 0) (ds : Data) → Follows (C × FlatIn ds) (λ f. C × (depth_at f.0 ≤ 512) × FlatIn f.1) (λ f. Unit {0}) (first_value ds) (first_value ds)
 first_follows C none = failed _ _ _
@@ -133,9 +117,7 @@ made_follows C k ds = weaker (C × FlatIn ds) C (λ t. C × Flat t) (λ t. branc
 flat_leaf : (p : Part) → LeafIf true p → FlatPart p
 flat_leaf (parts.Token l) h = tt
 flat_leaf parts.Counted h = tt
-flat_leaf (parts.Values ds raw) h = absurd h
-flat_leaf (parts.Endings es) h = absurd h
-flat_leaf (parts.Items is) h = absurd h
+flat_leaf _ h = absurd h
 
 skip_follows : (b : Flow) (w : Work) (x : Symbol) (xs : List Symbol) (ps : List Part) → is_leaf x ≡ true → Empty b w → Laid (x ∷ xs) ps → Follows (FlatGot (w, ps)) FlatGot (Stepped b xs) (skip w ps) (skip w ps)
 unfolding skip
@@ -206,14 +188,7 @@ parameter_of_follows C t (child u) =
     known (C × Flat t × (depth_at (child u) ≤ 512)) (λ v. C × Flat v) (λ v. branch kinds.BindingWithInitializer (two (child t) (child u)) ≡ v) (λ v. Unit {0}) (limited kinds.BindingWithInitializer (two (child t) (child u))) (unlimited kinds.BindingWithInitializer (two (child t) (child u))) tt
     (weaker (C × FlatIn (two (child t) (child u))) (C × Flat t × (depth_at (child u) ≤ 512)) (λ v. C × Flat v) (λ v. branch kinds.BindingWithInitializer (two (child t) (child u)) ≡ v) (limited kinds.BindingWithInitializer (two (child t) (child u))) (unlimited kinds.BindingWithInitializer (two (child t) (child u)))
     (λ h. let a : depth_in (two (child t) (child u)) ≤ 512 = h.1 in (h.0, omega (arith, a), omega (arith, a))) (node_follows C kinds.BindingWithInitializer (two (child t) (child u))))
-parameter_of_follows C t (listed ds) = failed _ _ _
-parameter_of_follows C t (flag c) = failed _ _ _
-parameter_of_follows C t (index n) = failed _ _ _
-parameter_of_follows C t (whole n) = failed _ _ _
-parameter_of_follows C t (name n) = failed _ _ _
-parameter_of_follows C t no_name = failed _ _ _
-parameter_of_follows C t (choice n) = failed _ _ _
-parameter_of_follows C t (window from to) = failed _ _ _
+parameter_of_follows C t _ = failed _ _ _
 
 parameter_follows : (b : Flow) (w : Work) (x y : Symbol) (xs : List Symbol) (ps : List Part) → Empty b w → Laid (x ∷ y ∷ xs) ps → Follows (FlatGot (w, ps)) FlatGot (Stepped (adds b) xs) (parameter limited w ps) (parameter unlimited w ps)
 unfolding parameter
@@ -270,10 +245,6 @@ tail_follows b w x xs ps e laid =
     (λ t j. done _ _ _ (record w { endings = w.endings ++ t.0 }, t.1)
     (λ z. let s = flat_endings w.endings t.0 z.0.endings in (record { values = z.0.values; held = z.0.held; directives = z.0.directives; endings = s.0; items = z.0.items }, s.1, z.1))
     (record { values = e.values; held = e.held; directives = e.directives; endings = λ t. absurd cc; items = e.items; raw = e.raw; plain = plain_tail b.plain (is_plain x) w.endings t.0 e.plain j.0; around = around_tail b.around (is_accessor x) w.endings t.0 e.around j.1 }, j.2))
-
-not_true : (b : Bool) → not b ≡ true → b ≡ false
-not_true true e = sym e
-not_true false e = refl
 
 pub no_items : (is : List Item) → is ≡ [] → FlatItems is
 no_items is e = subst FlatItems (sym e) tt
@@ -369,38 +340,21 @@ close_follows k b w xs ps e laid =
 
 step_follows : (s : Step) (b : Flow) (w : Work) (xs outer : List Symbol) (ps : List Part) → may_step s xs b ≡ true → Empty b w → Laid (xs ++ outer) ps
     → Follows (FlatGot (w, ps)) FlatGot (Stepped (after s xs b) (left_by s xs ++ outer)) (step_on limited s w ps) (step_on unlimited s w ps)
-step_follows steps.Skip b w [] outer ps may e laid = absurd cc
 step_follows steps.Skip b w (x ∷ xs) outer ps may e laid = skip_follows b w x (xs ++ outer) ps may e laid
-step_follows steps.Put b w [] outer ps may e laid = absurd cc
 step_follows steps.Put b w (x ∷ xs) outer ps may e laid = put_follows b w x (xs ++ outer) ps e laid
-step_follows steps.Operand b w [] outer ps may e laid = absurd cc
 step_follows steps.Operand b w (x ∷ xs) outer ps may e laid = operand_follows b w x (xs ++ outer) ps e laid
-step_follows steps.Wrap b w [] outer ps may e laid = absurd cc
 step_follows steps.Wrap b w (x ∷ xs) outer ps may e laid = wrap_follows b w x (xs ++ outer) ps e laid
-step_follows steps.Text b w [] outer ps may e laid = absurd cc
 step_follows steps.Text b w (x ∷ xs) outer ps may e laid = text_follows b w x (xs ++ outer) ps e laid
-step_follows steps.Whole b w [] outer ps may e laid = absurd cc
 step_follows steps.Whole b w (x ∷ xs) outer ps may e laid = whole_follows b w x (xs ++ outer) ps e laid
-step_follows (steps.Named k) b w [] outer ps may e laid = absurd cc
 step_follows (steps.Named k) b w (x ∷ xs) outer ps may e laid = named_follows k b w x (xs ++ outer) ps e laid
-step_follows steps.Quoted b w [] outer ps may e laid = absurd cc
 step_follows steps.Quoted b w (x ∷ xs) outer ps may e laid = quoted_follows b w x (xs ++ outer) ps e laid
-step_follows (steps.Operator o) b w [] outer ps may e laid = absurd cc
 step_follows (steps.Operator o) b w (x ∷ xs) outer ps may e laid = operator_follows o b w x (xs ++ outer) ps e laid
-step_follows steps.Parameter b w [] outer ps may e laid = absurd cc
-step_follows steps.Parameter b w (x ∷ []) outer ps may e laid = absurd cc
 step_follows steps.Parameter b w (x ∷ y ∷ xs) outer ps may e laid = parameter_follows b w x y (xs ++ outer) ps e laid
-step_follows steps.TemplatePart b w [] outer ps may e laid = absurd cc
-step_follows steps.TemplatePart b w (x ∷ []) outer ps may e laid = absurd cc
 step_follows steps.TemplatePart b w (x ∷ y ∷ xs) outer ps may e laid = template_follows b w x y (xs ++ outer) ps e laid
-step_follows steps.Tail b w [] outer ps may e laid = absurd cc
 step_follows steps.Tail b w (x ∷ xs) outer ps may e laid = tail_follows b w x (xs ++ outer) ps e laid
-step_follows steps.Rest b w [] outer ps may e laid = absurd cc
-step_follows steps.Rest b w (x ∷ xs) outer ps may e laid = rest_follows b w x (xs ++ outer) ps (not_true b.items may) e laid
-step_follows steps.Statements b w [] outer ps may e laid = absurd cc
+step_follows steps.Rest b w (x ∷ xs) outer ps may e laid = rest_follows b w x (xs ++ outer) ps (is_not b.items may) e laid
 step_follows steps.Statements b w (x ∷ xs) outer ps may e laid = statements_follows b w x (xs ++ outer) ps e laid
-step_follows steps.Body b w [] outer ps may e laid = absurd cc
-step_follows steps.Body b w (x ∷ xs) outer ps may e laid = body_follows b w x (xs ++ outer) ps (not_true b.directives may) e laid
+step_follows steps.Body b w (x ∷ xs) outer ps may e laid = body_follows b w x (xs ++ outer) ps (is_not b.directives may) e laid
 step_follows steps.Absent b w xs outer ps may e laid = plain_value b absent w (xs ++ outer) ps e laid
 step_follows steps.NoLabel b w xs outer ps may e laid = plain_value b no_name w (xs ++ outer) ps e laid
 step_follows steps.NoItems b w xs outer ps may e laid = plain_value b (listed none) w (xs ++ outer) ps e laid
@@ -411,18 +365,15 @@ step_follows (steps.Scope k) b w xs outer ps may e laid =
 step_follows steps.ParameterScope b w xs outer ps may e laid =
     tree_follows (FlatGot (w, ps)) (λ t. branch kinds.AssertedParameterScope no_parameter_names ≡ t) (limited kinds.AssertedParameterScope no_parameter_names) (unlimited kinds.AssertedParameterScope no_parameter_names) b w (xs ++ outer) ps e laid
     (made_follows (FlatGot (w, ps)) kinds.AssertedParameterScope no_parameter_names)
-step_follows steps.Hold b w xs outer ps may e laid = hold_follows b w (xs ++ outer) ps (not_true b.held may) e laid
+step_follows steps.Hold b w xs outer ps may e laid = hold_follows b w (xs ++ outer) ps (is_not b.held may) e laid
 step_follows steps.Resume b w xs outer ps may e laid = resume_follows b w (xs ++ outer) ps e laid
 step_follows (steps.Close k) b w xs outer ps may e laid = close_follows k b w (xs ++ outer) ps e laid
-
-both_are : (a b : Bool) → (a && b) ≡ true → (a ≡ true) × (b ≡ true)
-both_are true b e = (refl, e)
-both_are false b e = absurd cc
+step_follows _ b w _ outer ps may e laid = absurd cc
 
 pub all_follow : (ss : List Step) (b : Flow) (w : Work) (xs outer : List Symbol) (ps : List Part) → may_all ss xs b ≡ true → Empty b w → Laid (xs ++ outer) ps
     → Follows (FlatGot (w, ps)) FlatGot (Stepped (after_all ss xs b) (left_by_all ss xs ++ outer)) (gathered limited ss w ps) (gathered unlimited ss w ps)
 all_follow [] b w xs outer ps may e laid = done _ _ _ (w, ps) (λ z. z) (e, laid)
 all_follow (s ∷ ss) b w xs outer ps may e laid =
-    let m = both_are (may_step s xs b) (may_all ss (left_by s xs) (after s xs b)) may
+    let m = both (may_step s xs b) (may_all ss (left_by s xs) (after s xs b)) may
     in andthen (FlatGot (w, ps)) FlatGot (Stepped (after s xs b) (left_by s xs ++ outer)) FlatGot (Stepped (after_all (s ∷ ss) xs b) (left_by_all (s ∷ ss) xs ++ outer)) (step_on limited s w ps) (step_on unlimited s w ps) _ _
     (step_follows s b w xs outer ps m.0 e laid) (λ r j. all_follow ss (after s xs b) r.0 (left_by s xs) outer r.1 m.1 j.0 j.1)

@@ -112,11 +112,9 @@ abbrev pub FlatIn : Data → Type 0
 FlatIn ds = depth_in ds ≤ 512
 
 abbrev pub FlatForm : Form → Type 0
-FlatForm forms.Plain = Unit {0}
-FlatForm forms.Parameters = Unit {0}
-FlatForm forms.Label = Unit {0}
 FlatForm (forms.Contents body) = FlatIn body
 FlatForm (forms.Declared ds) = FlatIn ds
+FlatForm _ = Unit {0}
 
 abbrev pub FlatEnding : Ending → Type 0
 FlatEnding (endings.Around k form before behind) = FlatForm form × FlatIn before × FlatIn behind
@@ -131,11 +129,10 @@ FlatItems [] = Unit {0}
 FlatItems (i ∷ is) = Flat i.statement × FlatItems is
 
 abbrev pub FlatPart : Part → Type 0
-FlatPart (parts.Token l) = Unit {0}
-FlatPart parts.Counted = Unit {0}
 FlatPart (parts.Values ds raw) = FlatIn ds
 FlatPart (parts.Endings es) = FlatEndings es
 FlatPart (parts.Items is) = FlatItems is
+FlatPart _ = Unit {0}
 
 abbrev pub FlatParts : List Part → Type 0
 FlatParts [] = Unit {0}

@@ -1,12 +1,12 @@
 -- What the steps of a recipe gather holds what the parts hold.
-use Rattle.std.proofs.Common.{◌≡◌, Bool, true, false, not, ◌&&◌, List, [], ◌∷◌, ◌++◌, Option, Some, None, Result, Ok, refl, sym}
+use Rattle.std.proofs.Common.{◌≡◌, Bool, true, not, ◌&&◌, List, [], ◌∷◌, ◌++◌, Option, Some, None, Result, Ok, refl}
 use Rattle.bast_base.specs.declared.errors.NameId.{NameId}
 use Rattle.bast_schema.specs.declared.kind.EnumId.{EnumId}
 use Rattle.bast_schema.specs.declared.kind.Kind.{Kind}
 use Rattle.bast_schema.specs.declared.kind.Kind.TheVariants as kinds
 use Rattle.bast_schema.specs.Counts.{join}
 use Rattle.bast_schema.specs.Fields.{has_lazy}
-use Rattle.bast_schema.specs.Tree.{Tree, Datum, child, absent, listed, flag, index, whole, name, no_name, choice, window, Data, none, more}
+use Rattle.bast_schema.specs.Tree.{Tree, Datum, child, absent, listed, flag, whole, name, no_name, choice, Data, none, more}
 use Rattle.scope_facts.specs.Roles.{shape_of}
 use Rattle.js_tree.specs.Nodes.{Maker, one, two, no_names, no_parameter_names, statements, behind_directive, behind_directives, directives, directives_from}
 use Rattle.js_tree.specs.Operators.{operator}
@@ -22,7 +22,7 @@ use Rattle.js_tree.specs.declared.parts.Item.{Item}
 use Rattle.js_tree.specs.declared.recipe.Step.{Step}
 use Rattle.js_tree.specs.declared.recipe.Step.TheVariants as steps
 use Rattle.js_tree.specs.declared.work.Work.{Work}
-use Rattle.js_tree.proofs.Holding.{Holds, then, each_result, Each, is_common, is_made, Kept, HoldsName, HoldsLeaf, HoldsEndings, HoldsItems, HoldsParts, HoldsWork, each_join, endings_join, name_there, node_made, name_made, has_one_flag, scope_made, parameter_scope_made}
+use Rattle.js_tree.proofs.Holding.{Holds, then, each_result, both, is_not, Each, is_common, is_made, Kept, HoldsName, HoldsLeaf, HoldsEndings, HoldsItems, HoldsParts, HoldsWork, each_join, endings_join, name_there, node_made, name_made, has_one_flag, scope_made, parameter_scope_made}
 
 -- what was gathered, and the parts that are left
 abbrev pub Got : (Datum → Type 0) → Work × List Part → Type 0
@@ -41,36 +41,20 @@ abbrev pub ItemsTaken : (Datum → Type 0) → List Item × List Part → Type 0
 ItemsTaken P i = HoldsItems P i.0 × HoldsParts P i.1
 
 pub leaf_taken : (P : Datum → Type 0) (ps : List Part) → HoldsParts P ps → Holds (LeafTaken P) (taken_leaf ps)
-leaf_taken P [] h = tt
 leaf_taken P (parts.Token l ∷ ps) h = h
-leaf_taken P (parts.Counted ∷ ps) h = tt
-leaf_taken P (parts.Values ds raw ∷ ps) h = tt
-leaf_taken P (parts.Endings es ∷ ps) h = tt
-leaf_taken P (parts.Items is ∷ ps) h = tt
+leaf_taken P _ h = tt
 
 pub values_taken : (P : Datum → Type 0) (ps : List Part) → HoldsParts P ps → Holds (ValuesTaken P) (taken_values ps)
-values_taken P [] h = tt
-values_taken P (parts.Token l ∷ ps) h = tt
-values_taken P (parts.Counted ∷ ps) h = tt
 values_taken P (parts.Values ds raw ∷ ps) h = h
-values_taken P (parts.Endings es ∷ ps) h = tt
-values_taken P (parts.Items is ∷ ps) h = tt
+values_taken P _ h = tt
 
 pub endings_taken : (P : Datum → Type 0) (ps : List Part) → HoldsParts P ps → Holds (EndingsTaken P) (taken_endings ps)
-endings_taken P [] h = tt
-endings_taken P (parts.Token l ∷ ps) h = tt
-endings_taken P (parts.Counted ∷ ps) h = tt
-endings_taken P (parts.Values ds raw ∷ ps) h = tt
 endings_taken P (parts.Endings es ∷ ps) h = h
-endings_taken P (parts.Items is ∷ ps) h = tt
+endings_taken P _ h = tt
 
 pub items_taken : (P : Datum → Type 0) (ps : List Part) → HoldsParts P ps → Holds (ItemsTaken P) (taken_items ps)
-items_taken P [] h = tt
-items_taken P (parts.Token l ∷ ps) h = tt
-items_taken P (parts.Counted ∷ ps) h = tt
-items_taken P (parts.Values ds raw ∷ ps) h = tt
-items_taken P (parts.Endings es ∷ ps) h = tt
 items_taken P (parts.Items is ∷ ps) h = h
+items_taken P _ h = tt
 
 pub top_taken : (P : Datum → Type 0) (ps : List Part) → HoldsParts P ps → Holds (HoldsParts P) (without_top ps)
 top_taken P [] h = tt
@@ -87,15 +71,7 @@ one_taken P (more d (more e es)) h = tt
 
 pub node_taken : (P : Datum → Type 0) (d : Datum) → P d → Holds (λ t. P (child t)) (node_in d)
 node_taken P (child t) h = h
-node_taken P absent h = tt
-node_taken P (listed ds) h = tt
-node_taken P (flag b) h = tt
-node_taken P (index n) h = tt
-node_taken P (whole n) h = tt
-node_taken P (name n) h = tt
-node_taken P no_name h = tt
-node_taken P (choice n) h = tt
-node_taken P (window from to) h = tt
+node_taken P _ h = tt
 
 pub one_node_taken : (P : Datum → Type 0) (ds : Data) → Each P ds → Holds (λ t. P (child t)) (one_node ds)
 one_node_taken P ds h = then P (λ t. P (child t)) (one_value ds) node_in (one_taken P ds h) (node_taken P)
@@ -167,14 +143,7 @@ operator_got m P kept e w ps h k =
 initialized : (m : Maker) (P : Datum → Type 0) → Kept m P → (b : Tree) (d : Datum) → P (child b) → P d → Holds (λ t. P (child t)) (parameter_of m b d)
 initialized m P kept b absent h k = h
 initialized m P kept b (child t) h k = node_made m P kept kinds.BindingWithInitializer (two (child b) (child t)) refl (h, (k, tt))
-initialized m P kept b (listed ds) h k = tt
-initialized m P kept b (flag c) h k = tt
-initialized m P kept b (index n) h k = tt
-initialized m P kept b (whole n) h k = tt
-initialized m P kept b (name n) h k = tt
-initialized m P kept b no_name h k = tt
-initialized m P kept b (choice n) h k = tt
-initialized m P kept b (window from to) h k = tt
+initialized m P kept b _ h k = tt
 
 parameter_got : (m : Maker) (P : Datum → Type 0) → Kept m P → (w : Work) (ps : List Part) → HoldsWork P w → HoldsParts P ps → Holds (Got P) (parameter m w ps)
 unfolding parameter
@@ -281,14 +250,6 @@ is_made_by (steps.Scope k) = not (has_lazy k) && has_one_flag (shape_of k)
 is_made_by (steps.Close k) = is_made k
 is_made_by _ = true
 
-not_lazy : (b : Bool) → not b ≡ true → b ≡ false
-not_lazy true e = sym e
-not_lazy false e = refl
-
-both : (a b : Bool) → (a && b) ≡ true → (a ≡ true) × (b ≡ true)
-both true b e = (refl, e)
-both false b e = absurd cc
-
 step_got : (m : Maker) (P : Datum → Type 0) → Kept m P → (s : Step) (w : Work) (ps : List Part) → is_made_by s ≡ true → HoldsWork P w → HoldsParts P ps → Holds (Got P) (step_on m s w ps)
 step_got m P kept steps.Skip w ps is h k = skip_got P w ps h k
 step_got m P kept steps.Put w ps is h k = put_got P w ps h k
@@ -310,7 +271,7 @@ step_got m P kept steps.NoLabel w ps is h k = value_got P no_name w ps kept.no_l
 step_got m P kept steps.NoItems w ps is h k = value_got P (listed none) w ps (kept.list none tt) h k
 step_got m P kept (steps.Flag b) w ps is h k = value_got P (flag b) w ps (kept.flags b) h k
 step_got m P kept (steps.Choice n) w ps is h k = value_got P (choice n) w ps (kept.choices n) h k
-step_got m P kept (steps.Scope j) w ps is h k = let b = both (not (has_lazy j)) (has_one_flag (shape_of j)) is in node_got P (m j no_names) w ps (scope_made m P kept j (not_lazy (has_lazy j) b.0) b.1) h k
+step_got m P kept (steps.Scope j) w ps is h k = let b = both (not (has_lazy j)) (has_one_flag (shape_of j)) is in node_got P (m j no_names) w ps (scope_made m P kept j (is_not (has_lazy j) b.0) b.1) h k
 step_got m P kept steps.ParameterScope w ps is h k = node_got P (m kinds.AssertedParameterScope no_parameter_names) w ps (parameter_scope_made m P kept) h k
 step_got m P kept steps.Hold w ps is h k = (hold_got P w h, k)
 step_got m P kept steps.Resume w ps is h k = (resume_got m P kept w h, k)

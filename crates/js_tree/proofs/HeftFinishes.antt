@@ -4,7 +4,7 @@ use Rattle.bast_schema.specs.Choices.{lexical_let, lexical_const}
 use Rattle.bast_schema.specs.declared.kind.Kind.TheVariants as kinds
 use Rattle.bast_schema.specs.Counts.{join, size, size_at, size_in}
 use Rattle.bast_schema.specs.Kinds.{same_kind}
-use Rattle.bast_schema.specs.Tree.{Tree, branch, Datum, child, absent, listed, flag, index, whole, name, no_name, choice, window, Data, none, more, is_none}
+use Rattle.bast_schema.specs.Tree.{Tree, branch, Datum, child, absent, listed, name, choice, Data, none, more, is_none}
 use Rattle.js_grammar.specs.declared.symbols.RowId.{RowId}
 use Rattle.js_machine.specs.Laws.{rows_among}
 use Rattle.js_machine.specs.declared.events.Event.{Event}
@@ -29,13 +29,9 @@ use Rattle.js_tree.specs.declared.recipe.Declared.TheVariants as declared
 use Rattle.js_tree.specs.declared.recipe.Finish.{Finish}
 use Rattle.js_tree.specs.declared.recipe.Finish.TheVariants as finishes
 use Rattle.js_tree.specs.declared.work.Work.{Work}
-use Rattle.js_tree.proofs.Holding.{Holds, then}
+use Rattle.js_tree.proofs.Holding.{Holds, then, either}
 use Rattle.js_tree.proofs.Hefts.{Sized, heft_form, heft_ending, heft_endings, heft_parts, heft_work, size_join, Got, ValuesLeft, PartsLeft, TreeOf, values_left, first_left, one_left, up_to, one_node_left, node_made, steps_cost, all_got}
 use Rattle.js_tree.proofs.TreesHold.{limited_made, held_in}
-
-either : {A : Type 0} (Q : A → Type 0) (b : Bool) (r s : Result A Fault) → Holds Q r → Holds Q s → Holds Q (cond b r s)
-either Q true r s h k = h
-either Q false r s h k = k
 
 made_end : (made : Result Tree Fault) (ps : List Part) (k n : ℕ) → Holds (TreeOf k) made → k + heft_parts ps ≤ n → Holds (PartsLeft n) (made >>= λ t. Ok (parts.Values (one (child t)) None ∷ ps))
 made_end made ps k n h le = then (TreeOf k) (PartsLeft n) made (λ t. Ok (parts.Values (one (child t)) None ∷ ps)) h (λ t it. omega (arith, it))
@@ -45,17 +41,8 @@ none_not_some : {A : Type 0} (n : ℕ) → None ≡ Some n → A
 none_not_some n e = cc
 
 name_counts : (ds : Data) (n : ℕ) → first_name ds ≡ Some n → 1 ≤ size_in ds
-name_counts none n e = none_not_some n e
 name_counts (more (name i) ds) n e = omega arith
-name_counts (more (child t) ds) n e = none_not_some n e
-name_counts (more absent ds) n e = none_not_some n e
-name_counts (more (listed es) ds) n e = none_not_some n e
-name_counts (more (flag b) ds) n e = none_not_some n e
-name_counts (more (index i) ds) n e = none_not_some n e
-name_counts (more (whole i) ds) n e = none_not_some n e
-name_counts (more no_name ds) n e = none_not_some n e
-name_counts (more (choice i) ds) n e = none_not_some n e
-name_counts (more (window from to) ds) n e = none_not_some n e
+name_counts _ n e = none_not_some n e
 
 identifier_by : (b : Bool) (ds : Data) (n : ℕ) → cond b (first_name ds) None ≡ Some n → 2 ≤ 1 + size_in ds
 identifier_by true ds n e = omega (arith, name_counts ds n e)
@@ -160,9 +147,7 @@ left_size m sized how b (forms.Declared ds) n le =
     then (λ f. size_at f.0 + size_in f.1 ≤ size_in ds) (TreeOf n) (first_value ds) (λ f. m kinds.VariableDeclarator (two b f.0) >>= λ d. declaration m how (more (child d) f.1)) (first_left ds)
     (λ f jf. then (TreeOf (1 + size_at b + size_at f.0)) (TreeOf n) (m kinds.VariableDeclarator (two b f.0)) (λ d. declaration m how (more (child d) f.1)) (node_made m sized kinds.VariableDeclarator (two b f.0) (1 + size_at b + size_at f.0) (omega arith))
     (λ d id. up_to (3 + size_in (more (child d) f.1)) n (declaration m how (more (child d) f.1)) (omega (arith, id, jf)) (declaration_size m sized how (more (child d) f.1))))
-left_size m sized how b forms.Parameters n le = tt
-left_size m sized how b (forms.Contents body) n le = tt
-left_size m sized how b forms.Label n le = tt
+left_size m sized how b _ n le = tt
 
 -- the form counts no more once it is used
 bound_left : (m : Maker) → Sized m → (how : Declared) (b : Datum) (e : Ending) (ps : List Part) (n : ℕ) → 4 + size_at b + heft_ending e + heft_parts ps ≤ n → Holds (PartsLeft n) (bound m how b e ps)
@@ -243,26 +228,19 @@ parameters_left m sized w ps n le =
 
 -- how many values a row's own part has beyond those that were gathered
 abbrev pub finish_cost : Finish → ℕ
-finish_cost finishes.Same = 0
-finish_cost finishes.Values = 0
-finish_cost finishes.Folds = 0
 finish_cost (finishes.Ends k) = 1
 finish_cost (finishes.EndsParameters k) = 4
 finish_cost (finishes.EndsLabel k) = 1
-finish_cost finishes.Endings = 0
-finish_cost finishes.Fills = 0
 finish_cost (finishes.Binds how) = 4
-finish_cost finishes.Declares = 0
 finish_cost finishes.ArrowBody = 13
 finish_cost finishes.Tries = 1
 finish_cost finishes.Sequence = 2
 finish_cost finishes.Statement = 1
 finish_cost finishes.Property = 2
-finish_cost finishes.Instead = 0
 finish_cost finishes.Items = 1
-finish_cost finishes.NoItems = 0
 finish_cost finishes.Switch = 3
 finish_cost finishes.Parameters = 2
+finish_cost _ = 0
 
 finish_left : (m : Maker) → Sized m → (f : Finish) (w : Work) (ps : List Part) (n : ℕ) → heft_work w + heft_parts ps + finish_cost f ≤ n → Holds (PartsLeft n) (finish_on m f w ps)
 finish_left m sized finishes.Same w ps n le = omega arith

@@ -5,7 +5,7 @@ use Rattle.bast_schema.specs.declared.kind.EnumId.{EnumId}
 use Rattle.bast_schema.specs.declared.kind.Kind.{Kind}
 use Rattle.bast_schema.specs.declared.kind.Kind.TheVariants as kinds
 use Rattle.bast_schema.specs.Counts.{join, size, size_at, size_in}
-use Rattle.bast_schema.specs.Tree.{Tree, branch, Datum, child, absent, listed, flag, index, whole, name, no_name, choice, window, Data, none, more}
+use Rattle.bast_schema.specs.Tree.{Tree, branch, Datum, child, absent, listed, flag, whole, name, no_name, choice, Data, none, more}
 use Rattle.js_tree.specs.Nodes.{Maker, one, two, no_names, no_parameter_names, statements, behind_directive, behind_directives, directives, directives_from}
 use Rattle.js_tree.specs.Operators.{operator}
 use Rattle.js_tree.specs.Parts.{first_value, one_value, node_in, one_node, without_top, taken_leaf, taken_values, taken_endings, taken_items}
@@ -23,7 +23,7 @@ use Rattle.js_tree.specs.declared.parts.Item.{Item}
 use Rattle.js_tree.specs.declared.recipe.Step.{Step}
 use Rattle.js_tree.specs.declared.recipe.Step.TheVariants as steps
 use Rattle.js_tree.specs.declared.work.Work.{Work}
-use Rattle.js_tree.proofs.Holding.{Holds, then, each_result}
+use Rattle.js_tree.proofs.Holding.{Holds, then, each_result, any}
 
 -- a node is as large as its values and one more
 pub record Sized (m : Maker) : Type 0 where
@@ -31,11 +31,10 @@ pub record Sized (m : Maker) : Type 0 where
 
 -- the values that stand in parts, with those that are still to be made of them
 abbrev pub heft_form : Form → ℕ
-heft_form forms.Plain = 0
 heft_form forms.Parameters = 3
 heft_form (forms.Contents body) = 11 + size_in body
-heft_form forms.Label = 0
 heft_form (forms.Declared ds) = size_in ds
+heft_form _ = 0
 
 abbrev pub heft_ending : Ending → ℕ
 heft_ending (endings.Around k form before behind) = 1 + heft_form form + size_in before + size_in behind
@@ -50,11 +49,10 @@ heft_items [] = 0
 heft_items (i ∷ is) = 1 + size i.statement + heft_items is
 
 abbrev pub heft_part : Part → ℕ
-heft_part (parts.Token l) = 0
-heft_part parts.Counted = 0
 heft_part (parts.Values ds raw) = size_in ds
 heft_part (parts.Endings es) = heft_endings es
 heft_part (parts.Items is) = heft_items is
+heft_part _ = 0
 
 abbrev pub heft_parts : List Part → ℕ
 heft_parts [] = 0
@@ -97,36 +95,20 @@ abbrev pub TreeOf : ℕ → Tree → Type 0
 TreeOf n t = size t ≤ n
 
 leaf_left : (ps : List Part) → Holds (LeafLeft (heft_parts ps)) (taken_leaf ps)
-leaf_left [] = tt
 leaf_left (parts.Token l ∷ ps) = omega arith
-leaf_left (parts.Counted ∷ ps) = tt
-leaf_left (parts.Values ds raw ∷ ps) = tt
-leaf_left (parts.Endings es ∷ ps) = tt
-leaf_left (parts.Items is ∷ ps) = tt
+leaf_left _ = tt
 
 pub values_left : (ps : List Part) → Holds (ValuesLeft (heft_parts ps)) (taken_values ps)
-values_left [] = tt
-values_left (parts.Token l ∷ ps) = tt
-values_left (parts.Counted ∷ ps) = tt
 values_left (parts.Values ds raw ∷ ps) = omega arith
-values_left (parts.Endings es ∷ ps) = tt
-values_left (parts.Items is ∷ ps) = tt
+values_left _ = tt
 
 endings_left : (ps : List Part) → Holds (EndingsLeft (heft_parts ps)) (taken_endings ps)
-endings_left [] = tt
-endings_left (parts.Token l ∷ ps) = tt
-endings_left (parts.Counted ∷ ps) = tt
-endings_left (parts.Values ds raw ∷ ps) = tt
 endings_left (parts.Endings es ∷ ps) = omega arith
-endings_left (parts.Items is ∷ ps) = tt
+endings_left _ = tt
 
 items_left : (ps : List Part) → Holds (ItemsLeft (heft_parts ps)) (taken_items ps)
-items_left [] = tt
-items_left (parts.Token l ∷ ps) = tt
-items_left (parts.Counted ∷ ps) = tt
-items_left (parts.Values ds raw ∷ ps) = tt
-items_left (parts.Endings es ∷ ps) = tt
 items_left (parts.Items is ∷ ps) = omega arith
+items_left _ = tt
 
 top_left : (ps : List Part) → Holds (PartsLeft (heft_parts ps)) (without_top ps)
 top_left [] = tt
@@ -143,15 +125,7 @@ one_left (more d (more e es)) = tt
 
 node_left : (d : Datum) → Holds (TreeOf (size_at d)) (node_in d)
 node_left (child t) = omega arith
-node_left absent = tt
-node_left (listed ds) = tt
-node_left (flag b) = tt
-node_left (index n) = tt
-node_left (whole n) = tt
-node_left (name n) = tt
-node_left no_name = tt
-node_left (choice n) = tt
-node_left (window from to) = tt
+node_left _ = tt
 
 pub up_to : (n k : ℕ) (r : Result Tree Fault) → n ≤ k → Holds (TreeOf n) r → Holds (TreeOf k) r
 up_to n k (Ok t) le h = omega arith
@@ -187,33 +161,30 @@ wrap_got : (w : Work) (ps : List Part) (n : ℕ) → heft_work w + heft_parts ps
 unfolding wrap
 wrap_got w ps n le = then (ValuesLeft (heft_parts ps)) (Got n) (taken_values ps) (λ v. with_value (listed v.0.0) w v.1) (values_left ps) (λ v r. value_got (listed v.0.0) w v.1 n (omega arith))
 
-pub nothing_of : {A : Type 0} (r : Result A Fault) → Holds (λ x. Unit {0}) r
-nothing_of r = each_result (λ x. Unit {0}) r (λ x e. tt)
-
 text_got : (w : Work) (ps : List Part) (n : ℕ) → heft_work w + heft_parts ps + 1 ≤ n → Holds (Got n) (text w ps)
 unfolding text
 text_got w ps n le =
     then (LeafLeft (heft_parts ps)) (Got n) (taken_leaf ps) (λ l. there l.0.text >>= λ x. with_value (name x.0) w l.1) (leaf_left ps)
-    (λ l r. then (λ x. Unit {0}) (Got n) (there l.0.text) (λ x. with_value (name x.0) w l.1) (nothing_of (there l.0.text)) (λ x u. value_got (name x.0) w l.1 n (omega (arith, r))))
+    (λ l r. then (λ x. Unit {0}) (Got n) (there l.0.text) (λ x. with_value (name x.0) w l.1) (any (there l.0.text)) (λ x u. value_got (name x.0) w l.1 n (omega (arith, r))))
 
 whole_got : (w : Work) (ps : List Part) (n : ℕ) → heft_work w + heft_parts ps + 1 ≤ n → Holds (Got n) (whole_number w ps)
 unfolding whole_number
 whole_got w ps n le =
     then (LeafLeft (heft_parts ps)) (Got n) (taken_leaf ps) (λ l. number l.0.kind >>= λ x. with_value (whole x) w l.1) (leaf_left ps)
-    (λ l r. then (λ x. Unit {0}) (Got n) (number l.0.kind) (λ x. with_value (whole x) w l.1) (nothing_of (number l.0.kind)) (λ x u. value_got (whole x) w l.1 n (omega (arith, r))))
+    (λ l r. then (λ x. Unit {0}) (Got n) (number l.0.kind) (λ x. with_value (whole x) w l.1) (any (number l.0.kind)) (λ x u. value_got (whole x) w l.1 n (omega (arith, r))))
 
 named_got : (m : Maker) → Sized m → (j : Kind) (w : Work) (ps : List Part) (n : ℕ) → heft_work w + heft_parts ps + 2 ≤ n → Holds (Got n) (named m j w ps)
 unfolding named
 named_got m sized j w ps n le =
     then (LeafLeft (heft_parts ps)) (Got n) (taken_leaf ps) (λ l. there l.0.text >>= λ x. with_node (m j (one (name x.0))) w l.1) (leaf_left ps)
-    (λ l r. then (λ x. Unit {0}) (Got n) (there l.0.text) (λ x. with_node (m j (one (name x.0))) w l.1) (nothing_of (there l.0.text))
+    (λ l r. then (λ x. Unit {0}) (Got n) (there l.0.text) (λ x. with_node (m j (one (name x.0))) w l.1) (any (there l.0.text))
     (λ x u. node_got (m j (one (name x.0))) w l.1 2 n (node_made m sized j (one (name x.0)) 2 (omega arith)) (omega (arith, r))))
 
 quoted_got : (m : Maker) → Sized m → (w : Work) (ps : List Part) (n : ℕ) → heft_work w + heft_parts ps + 2 ≤ n → Holds (Got n) (quoted m w ps)
 unfolding quoted
 quoted_got m sized w ps n le =
     then (LeafLeft (heft_parts ps)) (Got n) (taken_leaf ps) _ (leaf_left ps)
-    (λ l r. then (λ x. Unit {0}) (Got n) (there l.0.text) _ (nothing_of (there l.0.text))
+    (λ l r. then (λ x. Unit {0}) (Got n) (there l.0.text) _ (any (there l.0.text))
     (λ x u. then (TreeOf 2) (Got n) (m kinds.LiteralStringExpression (one (name x.0))) (λ t. Ok (record w { values = join w.values (one (child t)); raw = l.0.raw }, l.1)) (node_made m sized kinds.LiteralStringExpression (one (name x.0)) 2 (omega arith))
     (λ t it. omega (arith, r, it, size_join w.values (one (child t))))))
 
@@ -221,25 +192,18 @@ operator_got : (e : EnumId) (w : Work) (ps : List Part) (n : ℕ) → heft_work 
 unfolding with_operator
 operator_got e w ps n le =
     then (LeafLeft (heft_parts ps)) (Got n) (taken_leaf ps) (λ l. there (operator e l.0.kind) >>= λ x. with_value (choice x) w l.1) (leaf_left ps)
-    (λ l r. then (λ x. Unit {0}) (Got n) (there (operator e l.0.kind)) (λ x. with_value (choice x) w l.1) (nothing_of (there (operator e l.0.kind))) (λ x u. value_got (choice x) w l.1 n (omega (arith, r))))
+    (λ l r. then (λ x. Unit {0}) (Got n) (there (operator e l.0.kind)) (λ x. with_value (choice x) w l.1) (any (there (operator e l.0.kind))) (λ x u. value_got (choice x) w l.1 n (omega (arith, r))))
 
 initialized : (m : Maker) → Sized m → (b : Tree) (d : Datum) (n : ℕ) → size b + size_at d + 1 ≤ n → Holds (TreeOf n) (parameter_of m b d)
 initialized m sized b absent n le = omega arith
 initialized m sized b (child t) n le = node_made m sized kinds.BindingWithInitializer (two (child b) (child t)) n (omega arith)
-initialized m sized b (listed ds) n le = tt
-initialized m sized b (flag c) n le = tt
-initialized m sized b (index i) n le = tt
-initialized m sized b (whole i) n le = tt
-initialized m sized b (name i) n le = tt
-initialized m sized b no_name n le = tt
-initialized m sized b (choice i) n le = tt
-initialized m sized b (window from to) n le = tt
+initialized m sized b _ n le = tt
 
 parameter_got : (m : Maker) → Sized m → (w : Work) (ps : List Part) (n : ℕ) → heft_work w + heft_parts ps + 3 ≤ n → Holds (Got n) (parameter m w ps)
 unfolding parameter
 parameter_got m sized w ps n le =
     then (LeafLeft (heft_parts ps)) (Got n) (taken_leaf ps) _ (leaf_left ps)
-    (λ l r. then (λ x. Unit {0}) (Got n) (there l.0.text) _ (nothing_of (there l.0.text))
+    (λ l r. then (λ x. Unit {0}) (Got n) (there l.0.text) _ (any (there l.0.text))
     (λ x u. then (TreeOf 2) (Got n) (m kinds.BindingIdentifier (one (name x.0))) _ (node_made m sized kinds.BindingIdentifier (one (name x.0)) 2 (omega arith))
     (λ b ib. then (ValuesLeft (heft_parts l.1)) (Got n) (taken_values l.1) _ (values_left l.1)
     (λ v iv. then (λ d. size_at d ≤ size_in v.0.0) (Got n) (one_value v.0.0) (λ d. with_node (parameter_of m b d) w v.1) (one_left v.0.0)
@@ -311,9 +275,6 @@ closed_got m sized j w =
 
 -- how many values a step adds
 abbrev pub step_cost : Step → ℕ
-step_cost steps.Skip = 0
-step_cost steps.Put = 0
-step_cost steps.Operand = 0
 step_cost steps.Wrap = 1
 step_cost steps.Text = 1
 step_cost steps.Whole = 1
@@ -322,8 +283,6 @@ step_cost steps.Quoted = 2
 step_cost (steps.Operator e) = 1
 step_cost steps.Parameter = 3
 step_cost steps.TemplatePart = 1
-step_cost steps.Tail = 0
-step_cost steps.Rest = 0
 step_cost steps.Statements = 1
 step_cost steps.Body = 1
 step_cost steps.Absent = 1
@@ -333,9 +292,9 @@ step_cost (steps.Flag b) = 1
 step_cost (steps.Choice n) = 1
 step_cost (steps.Scope k) = 3
 step_cost steps.ParameterScope = 4
-step_cost steps.Hold = 0
 step_cost steps.Resume = 1
 step_cost (steps.Close k) = 1
+step_cost _ = 0
 
 step_got : (m : Maker) → Sized m → (s : Step) (w : Work) (ps : List Part) (n : ℕ) → heft_work w + heft_parts ps + step_cost s ≤ n → Holds (Got n) (step_on m s w ps)
 step_got m sized steps.Skip w ps n le = skip_got w ps n (omega arith)

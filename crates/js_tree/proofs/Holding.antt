@@ -1,5 +1,6 @@
 -- What holds of each value that is gathered, where it holds of what is made of such values.
-use Rattle.std.proofs.Common.{◌≡◌, ℕ, Bool, true, false, not, ◌&&◌, ◌||◌, List, [], ◌∷◌, ◌++◌, Option, Some, None, Result, Ok, Err, refl, subst}
+use Rattle.std.proofs.Common.{◌≡◌, ℕ, zero, suc, cond, Bool, true, false, not, ◌&&◌, ◌||◌, List, [], ◌∷◌, ◌++◌, Option, Some, None, Result, Ok, Err, refl, sym, subst, arith}
+use Rattle.std.specs.List.{Contains, list_all}
 use Rattle.bast_base.specs.declared.errors.NameId.{NameId}
 use Rattle.bast_schema.specs.declared.kind.Kind.{Kind}
 use Rattle.bast_schema.specs.declared.kind.Kind.TheVariants as kinds
@@ -11,6 +12,7 @@ use Rattle.scope_facts.specs.Bare.{empty_fields}
 use Rattle.scope_facts.specs.Roles.{part, is_scope_part, shape_of}
 use Rattle.scope_facts.specs.declared.roles.Shape.{Shape}
 use Rattle.scope_facts.specs.declared.roles.Shape.TheVariants.{Parameters}
+use Rattle.js_grammar.specs.declared.symbols.RowId.{RowId}
 use Rattle.js_tree.specs.Nodes.{Maker, one, identifier, no_names, no_parameter_names}
 use Rattle.js_tree.specs.Results.{◌>>=◌, there}
 use Rattle.js_tree.specs.declared.fault.Fault.{Fault}
@@ -36,6 +38,27 @@ then Q R (Err e) f holds next = tt
 pub each_result : {A : Type 0} (Q : A → Type 0) (r : Result A Fault) → ((x : A) → r ≡ Ok x → Q x) → Holds Q r
 each_result Q (Ok x) is = is x refl
 each_result Q (Err e) is = tt
+
+pub any : {A : Type 0} (r : Result A Fault) → Holds (λ x. Unit {0}) r
+any r = each_result (λ x. Unit {0}) r (λ x e. tt)
+
+pub either : {A : Type 0} (Q : A → Type 0) (b : Bool) (r s : Result A Fault) → Holds Q r → Holds Q s → Holds Q (cond b r s)
+either Q true r s h k = h
+either Q false r s h k = k
+
+pub both : (a b : Bool) → (a && b) ≡ true → (a ≡ true) × (b ≡ true)
+both true b e = (refl, e)
+both false b e = absurd cc
+
+pub is_not : (b : Bool) → not b ≡ true → b ≡ false
+is_not true e = sym e
+is_not false e = refl
+
+-- what holds of all rows of a list holds of one
+pub each_row : (p : RowId → Bool) (rs : List RowId) (r : RowId) → list_all p rs ≡ true → Contains rs r → p r ≡ true
+each_row p [] r all (k, below, is) = absurd (omega arith)
+each_row p (q ∷ rs) r all (zero, below, is) = subst (λ r. p r ≡ true) is (both (p q) (list_all p rs) all).0
+each_row p (q ∷ rs) r all (suc k, below, is) = each_row p rs r (both (p q) (list_all p rs) all).1 (k, omega arith, is)
 
 -- of each value
 abbrev pub Each : (Datum → Type 0) → Data → Type 0
@@ -71,11 +94,9 @@ abbrev pub HoldsLeaf : (Datum → Type 0) → Leaf → Type 0
 HoldsLeaf P l = HoldsName P l.text × HoldsName P l.raw
 
 abbrev pub HoldsForm : (Datum → Type 0) → Form → Type 0
-HoldsForm P forms.Plain = Unit {0}
-HoldsForm P forms.Parameters = Unit {0}
-HoldsForm P forms.Label = Unit {0}
 HoldsForm P (forms.Contents body) = Each P body
 HoldsForm P (forms.Declared ds) = Each P ds
+HoldsForm P _ = Unit {0}
 
 abbrev pub HoldsEnding : (Datum → Type 0) → Ending → Type 0
 HoldsEnding P (endings.Around k form before behind) = (is_made k ≡ true) × HoldsForm P form × Each P before × Each P behind

@@ -21,10 +21,7 @@ use Rattle.js_tree.specs.declared.work.Work.{Work}
 -- the operand stands in each of these as it is
 abbrev pub PlainForm : Form → Type 0
 PlainForm forms.Plain = Unit {0}
-PlainForm forms.Parameters = ⊥
-PlainForm (forms.Contents body) = ⊥
-PlainForm forms.Label = ⊥
-PlainForm (forms.Declared ds) = ⊥
+PlainForm _ = ⊥
 
 abbrev pub PlainEnding : Ending → Type 0
 PlainEnding (endings.Around k form before behind) = PlainForm form
@@ -76,33 +73,23 @@ RawItems [] = Unit {0}
 RawItems (i ∷ is) = SmallTree i.raw i.statement × RawItems is
 
 abbrev pub RawPart : Bool → Part → Type 0
-RawPart b (parts.Token l) = Unit {0}
-RawPart b parts.Counted = Unit {0}
 RawPart b (parts.Values ds raw) = SmallIf b raw ds
-RawPart b (parts.Endings es) = Unit {0}
 RawPart b (parts.Items is) = RawItems is
+RawPart b _ = Unit {0}
 
 abbrev pub LeafIf : Bool → Part → Type 0
 LeafIf false p = Unit {0}
 LeafIf true (parts.Token l) = Unit {0}
 LeafIf true parts.Counted = Unit {0}
-LeafIf true (parts.Values ds raw) = ⊥
-LeafIf true (parts.Endings es) = ⊥
-LeafIf true (parts.Items is) = ⊥
+LeafIf true _ = ⊥
 
 abbrev pub PlainIf : Bool → Part → Type 0
 PlainIf b (parts.Endings es) = PlainEnds b es
-PlainIf b (parts.Token l) = Unit {0}
-PlainIf b parts.Counted = Unit {0}
-PlainIf b (parts.Values ds raw) = Unit {0}
-PlainIf b (parts.Items is) = Unit {0}
+PlainIf b _ = Unit {0}
 
 abbrev pub AroundIf : Bool → Part → Type 0
 AroundIf b (parts.Endings es) = Arounds b es
-AroundIf b (parts.Token l) = Unit {0}
-AroundIf b parts.Counted = Unit {0}
-AroundIf b (parts.Values ds raw) = Unit {0}
-AroundIf b (parts.Items is) = Unit {0}
+AroundIf b _ = Unit {0}
 
 -- what the head of a `for` without a declaration is put into
 abbrev pub is_plain : Symbol → Bool

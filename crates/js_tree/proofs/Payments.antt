@@ -1,5 +1,5 @@
 -- How many values the rows of a derivation add for each token that it takes.
-use Rattle.std.proofs.Common.{◌≡◌, ◌≤◌, ◌<◌, ◌+◌, ◌*◌, ℕ, zero, suc, Bool, true, false, ◌&&◌, length, List, [], ◌∷◌, ◌++◌, Ok, refl, ap, ◌∙◌, subst, arith}
+use Rattle.std.proofs.Common.{◌≡◌, ◌≤◌, ◌<◌, ◌+◌, ◌*◌, ℕ, Bool, true, length, List, [], ◌∷◌, ◌++◌, Ok, refl, ap, ◌∙◌, arith}
 use Rattle.std.specs.Prelude.{nat_le}
 use Rattle.std.specs.List.{Contains, list_all}
 use Rattle.std.proofs.lemmas.Bool.{leb-true}
@@ -20,6 +20,7 @@ use Rattle.js_tokens.specs.declared.kinds.Token.{Token}
 use Rattle.js_tree.specs.Image.{tree_of}
 use Rattle.js_tree.specs.Nodes.{limited}
 use Rattle.js_tree.specs.declared.leaf.Leaf.{Leaf}
+use Rattle.js_tree.proofs.Holding.{each_row}
 use Rattle.js_tree.proofs.HeftFinishes.{row_cost, rows_cost, tree_costs}
 
 -- seven values for a token; what is derived from a symbol has at most this many values more than its tokens pay for
@@ -88,42 +89,11 @@ pays s r = nat_le (row_cost r + credits (row_symbols r) + debt s) (debts (row_sy
 
 all_pay : (s : Symbol) → list_all (pays s) (alternatives s) ≡ true
 all_pay (symbols.Level levels.LogicalOr m) = refl
-all_pay (symbols.Level levels.LogicalAnd m) = refl
-all_pay (symbols.Level levels.BitwiseOr m) = refl
-all_pay (symbols.Level levels.BitwiseXor m) = refl
-all_pay (symbols.Level levels.BitwiseAnd m) = refl
-all_pay (symbols.Level levels.Equality m) = refl
-all_pay (symbols.Level levels.Relational m) = refl
-all_pay (symbols.Level levels.Shift m) = refl
-all_pay (symbols.Level levels.Additive m) = refl
-all_pay (symbols.Level levels.Multiplicative m) = refl
 all_pay (symbols.LevelTail levels.LogicalOr m) = refl
-all_pay (symbols.LevelTail levels.LogicalAnd m) = refl
-all_pay (symbols.LevelTail levels.BitwiseOr m) = refl
-all_pay (symbols.LevelTail levels.BitwiseXor m) = refl
-all_pay (symbols.LevelTail levels.BitwiseAnd m) = refl
-all_pay (symbols.LevelTail levels.Equality m) = refl
-all_pay (symbols.LevelTail levels.Relational m) = refl
-all_pay (symbols.LevelTail levels.Shift m) = refl
-all_pay (symbols.LevelTail levels.Additive m) = refl
-all_pay (symbols.LevelTail levels.Multiplicative m) = refl
 all_pay _ = refl
 
-first_of_both : (a b : Bool) → (a && b) ≡ true → a ≡ true
-first_of_both true b e = refl
-first_of_both false b e = e
-
-second_of_both : (a b : Bool) → (a && b) ≡ true → b ≡ true
-second_of_both true b e = e
-second_of_both false b e = absurd cc
-
-each_pays : (p : RowId → Bool) (rs : List RowId) (r : RowId) → list_all p rs ≡ true → Contains rs r → p r ≡ true
-each_pays p [] r all (k, below, is) = absurd (omega arith)
-each_pays p (q ∷ rs) r all (zero, below, is) = subst (λ r. p r ≡ true) is (first_of_both (p q) (list_all p rs) all)
-each_pays p (q ∷ rs) r all (suc k, below, is) = each_pays p rs r (second_of_both (p q) (list_all p rs) all) (k, omega arith, is)
-
 row_pays : (s : Symbol) (r : RowId) → Contains (alternatives s) r → row_cost r + credits (row_symbols r) + debt s ≤ debts (row_symbols r) + credit s
-row_pays s r c = leb-true (row_cost r + credits (row_symbols r) + debt s) (debts (row_symbols r) + credit s) (each_pays (pays s) (alternatives s) r (all_pay s) c)
+row_pays s r c = leb-true (row_cost r + credits (row_symbols r) + debt s) (debts (row_symbols r) + credit s) (each_row (pays s) (alternatives s) r (all_pay s) c)
 
 credits_join : (ss ts : List Symbol) → credits (ss ++ ts) ≡ credits ss + credits ts
 credits_join [] ts = omega arith

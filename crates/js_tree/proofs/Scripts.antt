@@ -1,5 +1,5 @@
 -- Why the tree of an accepted run is that of a script.
-use Rattle.std.proofs.Common.{◌≡◌, ◌==◌, ℕ, zero, suc, cond, Bool, true, false, length, List, [], ◌∷◌, ◌++◌, reverse, Result, Ok, refl, sym, ap, ◌∙◌, subst, arith}
+use Rattle.std.proofs.Common.{◌≡◌, ◌==◌, ℕ, zero, suc, length, List, [], ◌∷◌, ◌++◌, reverse, Ok, refl, sym, ap, ◌∙◌, subst, arith}
 use Rattle.std.specs.List.{Contains}
 use Rattle.bast_schema.specs.declared.kind.Kind.{Kind}
 use Rattle.bast_schema.specs.declared.kind.Kind.TheVariants as kinds
@@ -23,7 +23,6 @@ use Rattle.js_tree.specs.Parts.{one_node}
 use Rattle.js_tree.specs.Recipes.{recipe}
 use Rattle.js_tree.specs.Results.{broken}
 use Rattle.js_tree.specs.Steps.{gathered, step_on, closed, no_work}
-use Rattle.js_tree.specs.declared.fault.Fault.{Fault}
 use Rattle.js_tree.specs.declared.leaf.Leaf.{Leaf}
 use Rattle.js_tree.specs.declared.parts.Part.{Part}
 use Rattle.js_tree.specs.declared.parts.Part.TheVariants as parts
@@ -31,7 +30,7 @@ use Rattle.js_tree.specs.declared.recipe.Finish.TheVariants as finishes
 use Rattle.js_tree.specs.declared.recipe.Step.{Step}
 use Rattle.js_tree.specs.declared.recipe.Step.TheVariants as steps
 use Rattle.js_tree.specs.declared.work.Work.{Work}
-use Rattle.js_tree.proofs.Holding.{Holds, then, each_result}
+use Rattle.js_tree.proofs.Holding.{Holds, then, each_result, any, either}
 use Rattle.js_tree.proofs.TreesHold.{limited_made, held_in}
 
 -- the row of a script is the first one of its derivation
@@ -55,11 +54,7 @@ IsOne k ds = (t : Tree) × (ds ≡ one (child t)) × (kind_of t ≡ k)
 
 abbrev IsOnTop : Kind → List Part → Type 0
 IsOnTop k (parts.Values ds raw ∷ ps) = IsOne k ds
-IsOnTop k (parts.Token l ∷ ps) = Unit {0}
-IsOnTop k (parts.Counted ∷ ps) = Unit {0}
-IsOnTop k (parts.Endings es ∷ ps) = Unit {0}
-IsOnTop k (parts.Items is ∷ ps) = Unit {0}
-IsOnTop k [] = Unit {0}
+IsOnTop k _ = Unit {0}
 
 closed_is : (k : Kind) (w : Work) → Holds (λ x. IsOne k x.values) (closed limited k w)
 unfolding closed
@@ -72,7 +67,7 @@ last_is k [] w ps =
     then (λ r. IsOne k r.0.values) (λ g. IsOne k g.0.values) (step_on limited (steps.Close k) w ps) (λ r. gathered limited [] r.0 r.1)
     (then (λ x. IsOne k x.values) (λ r. IsOne k r.0.values) (closed limited k w) (λ x. Ok (x, ps)) (closed_is k w) (λ x is. is)) (λ r is. is)
 last_is k (s ∷ ss) w ps =
-    then (λ r. Unit {0}) (λ g. IsOne k g.0.values) (step_on limited s w ps) (λ r. gathered limited (ss ++ steps.Close k ∷ []) r.0 r.1) (each_result (λ r. Unit {0}) (step_on limited s w ps) (λ r e. tt)) (λ r any. last_is k ss r.0 r.1)
+    then (λ r. Unit {0}) (λ g. IsOne k g.0.values) (step_on limited s w ps) (λ r. gathered limited (ss ++ steps.Close k ∷ []) r.0 r.1) (any (step_on limited s w ps)) (λ r any. last_is k ss r.0 r.1)
 
 script_on_top : (ps : List Part) → Holds (IsOnTop kinds.Script) (row_part limited rows.Script ps)
 unfolding row_part
@@ -82,9 +77,6 @@ script_on_top ps =
 
 abbrev TopOf : List Leaf × List Part → Type 0
 TopOf s = IsOnTop kinds.Script s.1
-
-any : {A : Type 0} (r : Result A Fault) → Holds (λ x. Unit {0}) r
-any r = each_result (λ x. Unit {0}) r (λ x e. tt)
 
 row_on_top : (r : RowId) (s : List Leaf × List Part) → rows.Script ≡ r → Holds TopOf (event_part limited (Row r) s)
 row_on_top r s e =
@@ -103,17 +95,9 @@ top_of ls (Inserted ∷ es) first = then (λ s. Unit {0}) TopOf (image limited l
 node_is : (k : Kind) (ds : Data) → IsOne k ds → Holds (λ t. kind_of t ≡ k) (one_node ds)
 node_is k ds (t, same, is) = subst (λ ds. Holds (λ t. kind_of t ≡ k) (one_node ds)) (sym same) is
 
-if_alone : {A : Type 0} (Q : A → Type 0) (b : Bool) (r : Result A Fault) → Holds Q r → Holds Q (cond b r broken)
-if_alone Q true r h = h
-if_alone Q false r h = tt
-
 root_is : (k : Kind) (ps : List Part) → IsOnTop k ps → Holds (λ t. kind_of t ≡ k) (root ps)
-root_is k [] is = tt
-root_is k (parts.Values ds raw ∷ ps) is = if_alone (λ t. kind_of t ≡ k) (length ps == 0) (one_node ds) (node_is k ds is)
-root_is k (parts.Token l ∷ ps) is = tt
-root_is k (parts.Counted ∷ ps) is = tt
-root_is k (parts.Endings es ∷ ps) is = tt
-root_is k (parts.Items es ∷ ps) is = tt
+root_is k (parts.Values ds raw ∷ ps) is = either (λ t. kind_of t ≡ k) (length ps == 0) (one_node ds) broken (node_is k ds is) tt
+root_is k _ is = tt
 
 script_of : (ls : List Leaf) (es : List Event) → ((r : RowId) (qs : List RowId) → rows_among es ≡ r ∷ qs → rows.Script ≡ r) → Holds (λ t. kind_of t ≡ kinds.Script) (tree_of limited ls es)
 unfolding tree_of

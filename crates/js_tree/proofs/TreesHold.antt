@@ -11,7 +11,7 @@ use Rattle.bast_schema.specs.Counts.{is_whole, is_whole_at, is_whole_in}
 use Rattle.bast_schema.specs.Fields.{fields, has_lazy}
 use Rattle.bast_schema.specs.Kinds.{same_kind}
 use Rattle.bast_schema.specs.Made.{node_or}
-use Rattle.bast_schema.specs.Tree.{Tree, branch, Datum, child, absent, listed, flag, index, whole, name, no_name, choice, window, Data, none, more, first_wrong, depth, depth_at, depth_in}
+use Rattle.bast_schema.specs.Tree.{Tree, branch, Datum, child, listed, name, window, Data, none, more, first_wrong, depth, depth_at, depth_in}
 use Rattle.js_machine.specs.declared.events.Event.{Event}
 use Rattle.bast_schema.specs.Eager.{is_eager, is_eager_at, are_eager}
 use Rattle.scope_facts.specs.Bare.{empty_fields, bare_scope, bare, bare_at, bare_in}
@@ -157,17 +157,8 @@ no_name_here : {A : Type 0} (n : ℕ) → None ≡ Some n → A
 no_name_here n e = cc
 
 name_first : (p : ℕ → Bool) (ds : Data) (n : ℕ) → names_hold_in p ds ≡ true → first_name ds ≡ Some n → p n ≡ true
-name_first p none n h e = no_name_here n e
-name_first p (more (child t) ds) n h e = no_name_here n e
-name_first p (more absent ds) n h e = no_name_here n e
-name_first p (more (listed es) ds) n h e = no_name_here n e
-name_first p (more (flag b) ds) n h e = no_name_here n e
-name_first p (more (index i) ds) n h e = no_name_here n e
-name_first p (more (whole i) ds) n h e = no_name_here n e
 name_first p (more (name i) ds) n h e = let same : i ≡ n = cc in subst (λ n. p n ≡ true) same (first_true (p i) (names_hold_in p ds) h)
-name_first p (more no_name ds) n h e = no_name_here n e
-name_first p (more (choice i) ds) n h e = no_name_here n e
-name_first p (more (window from to) ds) n h e = no_name_here n e
+name_first p _ n h e = no_name_here n e
 
 name_in : (p : ℕ → Bool) (b : Bool) (ds : Data) (n : ℕ) → names_hold_in p ds ≡ true → cond b (first_name ds) None ≡ Some n → p n ≡ true
 name_in p true ds n h e = name_first p ds n h e
