@@ -32,12 +32,13 @@ use Rattle.js_tree.specs.Nodes.{Maker}
 use Rattle.js_tree.specs.Results.{◌>>=◌}
 use Rattle.js_tree.specs.declared.leaf.Leaf.{Leaf}
 use Rattle.js_tree.specs.declared.parts.Part.{Part}
-use Rattle.js_tree.proofs.Sorts.{IsMaker, Safely, LeafIs}
+use Rattle.js_tree.proofs.Sorts.{IsMaker, Safely, LeafIs, leads}
+use Rattle.js_tree.proofs.Roles.{leads_true}
 use Rattle.js_tree.proofs.Shapes.{and_left, and_right, either, three}
 use Rattle.js_tree.proofs.Safe.{safely_bind, same_classes}
 use Rattle.js_tree.proofs.Suits.{Left, NameAt, HeadAt, is_name, is_head, after, after_by, StandsAt, NameStandsAt, Suits, Chain, is_late, OpenAt, Open, passes_head, is_ready, in_chain, is_new, Linked}
 use Rattle.js_tree.proofs.Apart.{open_under, all_open, from_after}
-use Rattle.js_tree.proofs.Rowwise.{leads, leads_true, class_ok, OnArrow, Followed, Here}
+use Rattle.js_tree.proofs.Rowwise.{class_ok, OnArrow, Followed, Here}
 use Rattle.js_tree.proofs.EachRow.{row_goal, row_linked, row_guarded, row_ok, ok_at}
 
 -- what the tokens that are left tell

@@ -105,27 +105,8 @@ part_of symbols.PropName = one_node unions.PropertyName
 part_of symbols.TplRest = many (field.Node (unions.One kinds.TemplatePart))
 part_of symbols.TplMore = Values (field.Text ∷ []) (Many (field.Node (unions.One kinds.TemplatePart)))
 
--- the rows that ask for an operand of another sort, or make one: an arrow and its head (14.2), a label (13.13)
-abbrev pub is_special : RowId → Bool
-is_special rows.PrimaryHead = true
-is_special (rows.AssignTailArrow m) = true
-is_special rows.LabelBody = true
-is_special _ = false
-
 abbrev pub row_parts : RowId → List PartSort
 row_parts r = map part_of (row_symbols r)
-
-abbrev pub fits_in : Symbol → RowId → Bool
-fits_in s r = is_special r || row_fits r (row_parts r) (part_of s)
-
-pub all_fit : (s : Symbol) → list_all (fits_in s) (alternatives s) ≡ true
-all_fit symbols.Script = refl
-all_fit (symbols.Level levels.Multiplicative m) = refl
-all_fit (symbols.Level _ m) = refl
-all_fit (symbols.LevelTail levels.Relational modes.WithIn) = refl
-all_fit (symbols.LevelTail levels.Relational modes.NoIn) = refl
-all_fit (symbols.LevelTail _ _) = refl
-all_fit _ = refl
 
 pub head_fits : row_fits rows.PrimaryHead (row_parts rows.PrimaryHead) (one_node (unions.One kinds.FormalParameters)) ≡ true
 head_fits = refl
