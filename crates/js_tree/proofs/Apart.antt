@@ -16,7 +16,7 @@ use Rattle.js_machine.proofs.Work.{vanishes}
 use Rattle.js_tree.specs.Nodes.{Maker}
 use Rattle.js_tree.specs.declared.parts.Part.{Part}
 use Rattle.js_tree.specs.declared.parts.Part.TheVariants as parts
-use Rattle.js_tree.proofs.Sorts.{PartSort, Token, PartIs}
+use Rattle.js_tree.proofs.Sorts.{PartIs}
 use Rattle.js_tree.proofs.Shapes.{and_left, and_right}
 use Rattle.js_tree.proofs.Gathers.{PartsAre}
 use Rattle.js_tree.proofs.Table.{part_of, one_node, operators, many}

@@ -1,5 +1,5 @@
 -- Each row of each symbol leaves what suits its symbol.
-use Rattle.std.proofs.Common.{◌≡◌, ℕ, zero, suc, ◌<◌, Bool, true, false, not, ◌&&◌, ◌||◌, List, [], ◌∷◌, Option, Some, None, refl, ap, subst, arith}
+use Rattle.std.proofs.Common.{◌≡◌, ℕ, inl, zero, suc, ◌<◌, Bool, true, false, not, ◌&&◌, ◌||◌, List, [], ◌∷◌, Option, Some, None, refl, ap, subst, arith}
 use Rattle.std.specs.List.{list_all}
 use Rattle.js_grammar.specs.declared.class.Class.{Class}
 use Rattle.js_grammar.specs.declared.class.Class.TheVariants as classes
@@ -12,18 +12,18 @@ use Rattle.js_tree.specs.Nodes.{Maker}
 use Rattle.js_tree.proofs.Shapes.{and_left, and_right}
 use Rattle.js_tree.proofs.Suits.{is_late, passes_head, in_chain, is_new}
 use Rattle.std.proofs.Common.{length, get_or}
-use Rattle.js_grammar.specs.declared.symbols.Level.{Level}
 use Rattle.js_grammar.specs.declared.symbols.Level.TheVariants as levels
-use Rattle.js_grammar.specs.declared.symbols.Mode.{Mode}
 use Rattle.js_grammar.specs.declared.symbols.RowId.TheVariants as rows
 use Rattle.js_grammar.specs.Choice.{row_of}
-use Rattle.js_grammar.specs.Rows.{row_symbols, alternatives}
+use Rattle.js_grammar.specs.Rows.{row_symbols, alternatives, next_level}
 use Rattle.js_tree.proofs.Sorts.{IsMaker, leads}
-use Rattle.js_grammar.specs.Classes.{same_class}
 use Rattle.js_grammar.specs.declared.symbols.Terminal.TheVariants as terminals
-use Rattle.js_tree.proofs.Safe.{same_classes}
+use Rattle.js_tree.proofs.Safe.{among_one}
 use Rattle.js_tree.proofs.Rowwise.{Goal, class_ok, own, generic_row, generic_fit}
-use Rattle.js_tree.proofs.Specials.{lhs_tail_empty, member_tail_empty, post_empty, level_tail_empty, cond_tail_empty, comma_empty, assign_tail_empty, new_args_empty, again, cond_row, unary_row, lhs_row, callee_row, level_row, expr_row, assign_row, stat_row, ident_row, head_row, arrow_row, label_row}
+use Rattle.js_tree.specs.Image.{row_part}
+use Rattle.js_tree.specs.Steps.{operand, put, tail}
+use Rattle.js_tree.specs.Finishes.{folds}
+use Rattle.js_tree.proofs.Specials.{assign_tail_empty, new_args_empty, again, chained_row, next_role, expr_row, assign_row, stat_row, ident_row, head_row, arrow_row, label_row}
 use Rattle.js_grammar.specs.declared.symbols.Mode.TheVariants as modes
 use Rattle.js_grammar.proofs.Each.{all_classes, each_class}
 use Rattle.js_grammar.proofs.Begins.{chosen_in}
@@ -61,25 +61,26 @@ all_goals m maker s [] is = tt
 all_goals m maker s (r ∷ rs) is = let f = first_goal m maker (own r) (generic_by (own r) s r) s r (OwnGoals m s rs) refl refl is in (f.0, all_goals m maker s rs f.1)
 
 own_goals : (m : Maker) → IsMaker m → (s : Symbol) → OwnGoals m s (alternatives s)
+unfolding row_part operand put tail folds
 own_goals m maker symbols.Stat = (stat_row m maker, tt)
 own_goals m maker symbols.Label = (label_row m maker, tt)
 own_goals m maker (symbols.Expr q) = (expr_row m maker q, tt)
-own_goals m maker (symbols.Comma q) = (comma_empty m q, tt)
+own_goals m maker (symbols.Comma q) = (λ c n newline first from fs o ps here is. inl (tt, is), tt)
 own_goals m maker (symbols.Assign q) = (assign_row m maker q, tt)
 own_goals m maker (symbols.AssignTail q) = (arrow_row m maker q, (assign_tail_empty m q, tt))
-own_goals m maker (symbols.Cond q) = (cond_row m maker q, tt)
-own_goals m maker (symbols.CondTail q) = (cond_tail_empty m q, tt)
-own_goals m maker (symbols.Level l q) = (level_row m maker l q, tt)
-own_goals m maker (symbols.LevelTail levels.Relational modes.WithIn) = (level_tail_empty m levels.Relational modes.WithIn, tt)
-own_goals m maker (symbols.LevelTail levels.Relational modes.NoIn) = (level_tail_empty m levels.Relational modes.NoIn, tt)
-own_goals m maker (symbols.LevelTail l q) = (level_tail_empty m l q, tt)
-own_goals m maker symbols.Unary = (unary_row m maker, tt)
-own_goals m maker symbols.Post = (post_empty m, tt)
-own_goals m maker symbols.Lhs = (lhs_row m maker, tt)
-own_goals m maker symbols.LhsTail = (lhs_tail_empty m, tt)
+own_goals m maker (symbols.Cond q) = (chained_row m maker (symbols.Cond q) (symbols.Level levels.LogicalOr q) (symbols.CondTail q) (rows.Cond q) (λ r. r) refl refl refl refl (λ t raw qs. refl) refl, tt)
+own_goals m maker (symbols.CondTail q) = (λ c n newline first from fs o ps here is. inl (tt, is), tt)
+own_goals m maker (symbols.Level l q) = (chained_row m maker (symbols.Level l q) (next_level l q) (symbols.LevelTail l q) (rows.Level l q) (λ r. r) refl (next_role l q) refl refl (λ t raw qs. refl) refl, tt)
+own_goals m maker (symbols.LevelTail levels.Relational modes.WithIn) = (λ c n newline first from fs o ps here is. inl (tt, is), tt)
+own_goals m maker (symbols.LevelTail levels.Relational modes.NoIn) = (λ c n newline first from fs o ps here is. inl (tt, is), tt)
+own_goals m maker (symbols.LevelTail l q) = (λ c n newline first from fs o ps here is. inl (tt, is), tt)
+own_goals m maker symbols.Unary = (chained_row m maker symbols.Unary symbols.Lhs symbols.Post rows.UnaryLhs (λ r. r) refl refl refl refl (λ t raw qs. refl) refl, tt)
+own_goals m maker symbols.Post = (λ c n newline first from fs o ps here is. inl (tt, is), tt)
+own_goals m maker symbols.Lhs = (chained_row m maker symbols.Lhs symbols.Primary symbols.LhsTail rows.LhsPrimary (λ r. r) refl refl refl refl (λ t raw qs. refl) refl, tt)
+own_goals m maker symbols.LhsTail = (λ c n newline first from fs o ps here is. inl (tt, is), tt)
 own_goals m maker symbols.Again = (again m, tt)
-own_goals m maker symbols.Callee = (callee_row m maker, tt)
-own_goals m maker symbols.MemberTail = (member_tail_empty m, tt)
+own_goals m maker symbols.Callee = (chained_row m maker symbols.Callee symbols.Primary symbols.MemberTail rows.CalleePrimary (λ r. None) refl refl refl refl (λ t raw qs. refl) refl, tt)
+own_goals m maker symbols.MemberTail = (λ c n newline first from fs o ps here is. inl (tt, is), tt)
 own_goals m maker symbols.NewArgs = (new_args_empty m maker, tt)
 own_goals m maker symbols.Primary = (ident_row m maker, (head_row m maker, tt))
 own_goals m maker _ = tt
@@ -129,14 +130,7 @@ ok_other s c true r other e = ok_of (row_of s c true) s c true r (and_left (chos
 ok_other s c false r other e = ok_of (row_of s c false) s c false r (and_right (chosen_ok s c true (row_of s c true)) (chosen_ok s c false (row_of s c false)) (not_new (is_new s) (chosen_ok s c true (row_of s c true) && chosen_ok s c false (row_of s c false)) other (each_class (both_ok s) (all_ok s) c))) e
 
 new_ok : (c : Class) (newline : Bool) → takes_class (terminals.One classes.New) c ≡ true → row_ok symbols.New c newline rows.New ≡ true
-new_ok c newline e = ap (λ c. row_ok symbols.New c newline rows.New) (only_class c classes.New e)
-  where
-    or_none : (b : Bool) → (b || false) ≡ true → b ≡ true
-    or_none true e = refl
-    or_none false e = e
-
-    only_class : (c k : Class) → takes_class (terminals.One k) c ≡ true → c ≡ k
-    only_class c k e = same_classes c k (or_none (same_class c k) e)
+new_ok c newline e = ap (λ c. row_ok symbols.New c newline rows.New) (among_one c classes.New e)
 
 -- a `new` is taken only where its token comes
 pub ok_at : (s : Symbol) (c : Class) (newline : Bool) (r : RowId) → row_of s c newline ≡ Some r → (is_new s ≡ true → takes_class (terminals.One classes.New) c ≡ true) → row_ok s c newline r ≡ true

@@ -4,7 +4,6 @@ use Rattle.std.specs.List.{list_all}
 use Rattle.js_grammar.specs.declared.class.Class.{Class}
 use Rattle.js_grammar.specs.declared.class.Class.TheVariants as classes
 use Rattle.js_grammar.specs.declared.symbols.Symbol.{Symbol}
-use Rattle.js_grammar.specs.declared.symbols.Symbol.TheVariants as symbols
 use Rattle.js_grammar.specs.declared.symbols.RowId.{RowId}
 use Rattle.js_machine.specs.declared.events.Frame.{Frame}
 use Rattle.js_machine.specs.declared.events.Frame.TheVariants.{Want}
@@ -142,7 +141,7 @@ from_later c n Anything e is = tt
 from_later c n (NameAt k) e is = later k n (is_name c) is.0 (or_false (is_name c) (is_head c) e).0 is.1
 from_later c n (HeadAt k) e is = later k n (is_head c) is.0 (or_false (is_name c) (is_head c) e).1 is.1
 
-non_head : (c : Class) (newline : Bool) (o : Left) → not_arrow c newline ≡ true → OnArrow c newline o → NoHead o
+pub non_head : (c : Class) (newline : Bool) (o : Left) → not_arrow c newline ≡ true → OnArrow c newline o → NoHead o
 non_head c newline Anything e is = tt
 non_head c newline (NameAt n) e is = tt
 non_head c newline (HeadAt n) e is = false_true (not_arrow c newline) is e

@@ -1,5 +1,5 @@
 -- What the values of a symbol may be, and what is put around an operand: tests that compute, and what they stand for.
-use Rattle.std.proofs.Common.{◌≡◌, ℕ, Bool, true, false, not, ◌&&◌, ◌||◌, ◌⊎◌, List, [], ◌∷◌, Option, Some, None, Result, Ok, Err, length, nat_lt, ◌^◌}
+use Rattle.std.proofs.Common.{◌≡◌, ℕ, Bool, true, false, not, ◌&&◌, ◌||◌, ◌⊎◌, List, [], ◌∷◌, ◌++◌, Option, Some, None, Result, Ok, Err, length, nat_lt, ◌^◌}
 use Rattle.std.specs.Prelude.{◌==◌}
 use Rattle.std.specs.List.{list_all}
 use Rattle.bast_base.specs.declared.errors.NameId.{NameId}
@@ -243,14 +243,20 @@ AreItems [] = Unit {0}
 AreItems (i ∷ is) = Is unions.Statement i.statement × AreItems is
 
 -- the classes of tokens that have a text
+abbrev pub name_classes : List Class
+name_classes =
+    classes.Identifier ∷ classes.Of ∷ classes.Get ∷ classes.Set ∷ classes.Text ∷ classes.TemplateWhole ∷ classes.TemplateHead ∷
+    classes.TemplateMiddle ∷ classes.TemplateTail ∷ []
+
+abbrev pub word_classes : List Class
+word_classes =
+    classes.Instanceof ∷ classes.In ∷ classes.UnaryWord ∷ classes.This ∷ classes.Null ∷ classes.True ∷ classes.False ∷ classes.New ∷
+    classes.Function ∷ classes.Let ∷ classes.Const ∷ classes.Var ∷ classes.Debugger ∷ classes.If ∷ classes.Else ∷ classes.For ∷ classes.While ∷
+    classes.Do ∷ classes.Continue ∷ classes.Break ∷ classes.Return ∷ classes.Throw ∷ classes.Switch ∷ classes.Case ∷ classes.Default ∷
+    classes.Try ∷ classes.Catch ∷ classes.Finally ∷ classes.OtherWord ∷ []
+
 abbrev pub told_classes : List Class
-told_classes =
-    classes.Identifier ∷ classes.Of ∷ classes.Get ∷ classes.Set ∷ classes.Number ∷ classes.Text ∷ classes.TemplateWhole ∷
-    classes.TemplateHead ∷ classes.TemplateMiddle ∷ classes.TemplateTail ∷ classes.Instanceof ∷ classes.In ∷ classes.UnaryWord ∷ classes.This ∷
-    classes.Null ∷ classes.True ∷ classes.False ∷ classes.New ∷ classes.Function ∷ classes.Let ∷ classes.Const ∷ classes.Var ∷
-    classes.Debugger ∷ classes.If ∷ classes.Else ∷ classes.For ∷ classes.While ∷ classes.Do ∷ classes.Continue ∷ classes.Break ∷
-    classes.Return ∷ classes.Throw ∷ classes.Switch ∷ classes.Case ∷ classes.Default ∷ classes.Try ∷ classes.Catch ∷ classes.Finally ∷
-    classes.OtherWord ∷ []
+told_classes = classes.Number ∷ (name_classes ++ word_classes)
 
 abbrev pub tells_text : Class → Bool
 tells_text c = is_among c told_classes

@@ -1,18 +1,15 @@
 -- What the part of each symbol may be, and that the recipes of its rows make it so.
-use Rattle.std.proofs.Common.{◌≡◌, Bool, true, false, ◌||◌, List, [], ◌∷◌, map, refl}
-use Rattle.std.specs.List.{list_all}
+use Rattle.std.proofs.Common.{◌≡◌, true, List, [], ◌∷◌, map, refl}
 use Rattle.bast_schema.specs.declared.kind.FieldType.{FieldType}
 use Rattle.bast_schema.specs.declared.kind.FieldType.TheVariants as field
 use Rattle.bast_schema.specs.declared.kind.Kind.TheVariants as kinds
 use Rattle.bast_schema.specs.declared.kind.Union.{Union}
 use Rattle.bast_schema.specs.declared.kind.Union.TheVariants as unions
-use Rattle.js_grammar.specs.declared.symbols.Level.TheVariants as levels
-use Rattle.js_grammar.specs.declared.symbols.Mode.TheVariants as modes
 use Rattle.js_grammar.specs.declared.symbols.Symbol.{Symbol}
 use Rattle.js_grammar.specs.declared.symbols.Symbol.TheVariants as symbols
 use Rattle.js_grammar.specs.declared.symbols.RowId.{RowId}
 use Rattle.js_grammar.specs.declared.symbols.RowId.TheVariants as rows
-use Rattle.js_grammar.specs.Rows.{alternatives, row_symbols}
+use Rattle.js_grammar.specs.Rows.{row_symbols}
 use Rattle.js_tree.proofs.Sorts.{Nothing, Many, Maybe, Clauses, Parameters, NoTail, Turns, Names, Fills, Binds, Any, OneName, Head, PartSort, Token, Semicolon, Values, Endings, Items, case, declarators}
 use Rattle.js_tree.proofs.Filling.{row_fits, block}
 
