@@ -1,5 +1,5 @@
 -- What the machine accepts has a tree: what is left of a run makes parts that suit the stack.
-use Rattle.std.proofs.Common.{◌≡◌, ℕ, zero, suc, ◌≤◌, ◌<◌, Bool, true, false, not, cond, ◌&&◌, ◌||◌, inl, inr, List, [], ◌∷◌, ◌++◌, reverse, Option, Some, None, Ok, refl, sym, ap, ◌∙◌, subst, arith, append_assoc}
+use Rattle.std.proofs.Common.{◌≡◌, ℕ, zero, suc, ◌≤◌, ◌<◌, Bool, true, false, not, cond, ◌&&◌, inl, inr, List, [], ◌∷◌, ◌++◌, reverse, Option, Some, None, Ok, refl, sym, ap, ◌∙◌, subst, arith, append_assoc, append-nil}
 use Rattle.std.proofs.lemmas.List.{reverse-append}
 use Rattle.std.specs.Prelude.{◌==◌}
 use Rattle.std.specs.List.{list_all}
@@ -12,7 +12,7 @@ use Rattle.js_grammar.specs.declared.symbols.Symbol.{Symbol}
 use Rattle.js_grammar.specs.declared.symbols.Symbol.TheVariants as symbols
 use Rattle.js_grammar.specs.declared.symbols.RowId.{RowId}
 use Rattle.js_grammar.specs.declared.symbols.RowId.TheVariants as rows
-use Rattle.js_grammar.specs.Classes.{takes_class, is_among, same_class}
+use Rattle.js_grammar.specs.Classes.{takes_class, is_among}
 use Rattle.js_grammar.specs.Choice.{row_of}
 use Rattle.js_grammar.specs.Rows.{row_symbols, is_marked}
 use Rattle.js_machine.specs.declared.kinds.Kind.{Kind}
@@ -32,12 +32,13 @@ use Rattle.js_tree.specs.Nodes.{Maker}
 use Rattle.js_tree.specs.Results.{◌>>=◌}
 use Rattle.js_tree.specs.declared.leaf.Leaf.{Leaf}
 use Rattle.js_tree.specs.declared.parts.Part.{Part}
-use Rattle.js_tree.proofs.Sorts.{IsMaker, Safely, LeafIs}
+use Rattle.js_tree.proofs.Sorts.{IsMaker, Safely, LeafIs, leads}
+use Rattle.js_tree.proofs.Roles.{leads_true}
 use Rattle.js_tree.proofs.Shapes.{and_left, and_right, either, three}
-use Rattle.js_tree.proofs.Safe.{safely_bind, same_classes}
+use Rattle.js_tree.proofs.Safe.{safely_bind, among_one}
 use Rattle.js_tree.proofs.Suits.{Left, NameAt, HeadAt, is_name, is_head, after, after_by, StandsAt, NameStandsAt, Suits, Chain, is_late, OpenAt, Open, passes_head, is_ready, in_chain, is_new, Linked}
 use Rattle.js_tree.proofs.Apart.{open_under, all_open, from_after}
-use Rattle.js_tree.proofs.Rowwise.{leads, leads_true, class_ok, OnArrow, Followed, Here}
+use Rattle.js_tree.proofs.Rowwise.{class_ok, OnArrow, Followed, Here}
 use Rattle.js_tree.proofs.EachRow.{row_goal, row_linked, row_guarded, row_ok, ok_at}
 
 -- what the tokens that are left tell
@@ -90,14 +91,6 @@ Made m fs st ts ls more =
 
 abbrev pub Builds : Maker → List Frame → State → List Lookahead → List Leaf → List Event → Type 0
 Builds m fs st ts ls all = (more : List Event) × (all ≡ st.events ++ more) × Made m fs st ts ls more
-
-one_then : (es more : List Event) (e : Event) → (es ++ e ∷ []) ++ more ≡ es ++ e ∷ more
-one_then [] more e = refl
-one_then (x ∷ es) more e = ap (λ l. x ∷ l) (one_then es more e)
-
-with_none : (es : List Event) → es ≡ es ++ []
-with_none [] = refl
-with_none (x ∷ es) = ap (λ l. x ∷ l) (with_none es)
 
 -- the stack's facts, step by step
 chain_lift : (c first : Class) (n from : ℕ) (fs : List Frame) → from ≤ n → (from ≡ n → first ≡ c) → Chain first from fs → Chain c n fs
@@ -224,13 +217,6 @@ row_made m maker s first from t ts ls r st more is ok may sound made = λ o arro
     (λ ps good. (suits.0, unmark m s first from (is_marked r) st.stack o ps good)))
 
 -- a token
-or_none : (b : Bool) → (b || false) ≡ true → b ≡ true
-or_none true e = refl
-or_none false e = e
-
-among_one : (c k : Class) → is_among c (k ∷ []) ≡ true → c ≡ k
-among_one c k e = same_classes c k (or_none (same_class c k) e)
-
 name_by : (a b d : Bool) (n : ℕ) → a ≡ true → b ≡ true → after_by (a && b) d n ≡ NameAt n
 name_by true true d n e f = refl
 name_by true false d n e f = cc
@@ -350,7 +336,7 @@ module _ (m : Maker) (maker : IsMaker m) (K : List Frame → List Lookahead → 
       let f = row_facts s first from t.class t.newline_before r st ok sound in
       let facts : Sound t.class (with_row r t.class st).stack (with_row r t.class st) = record { chain = f.chain; linked = f.linked; late = f.late; closed = f.closed } in
       let rest = here (with_row r t.class st) facts (closes.row s first from st.taken st.stack t ts r (is_marked r) is (λ n. new (with_row r t.class st) (terminals.One classes.Function) t.class st.taken _ (sym (ap (λ r. (with_row r t.class st).stack) (function_row s t.class t.newline_before r n is))) e) k) e in
-      (Row r ∷ rest.0, rest.1 ∙ one_then st.events rest.0 (Row r), row_made m maker s first from t ts ls r st rest.0 is ok may sound rest.2)
+      (Row r ∷ rest.0, rest.1 ∙ append_assoc st.events ((Row r) ∷ []) rest.0, row_made m maker s first from t ts ls r st rest.0 is ok may sound rest.2)
 
   row_used : (o : Option RowId) (s : Symbol) (first : Class) (from : ℕ) (t : Lookahead) (st : State) (ts : List Lookahead) (ls : List Leaf) (h g : State → Option Outcome)
       → Here-of t ts ls h → New-of t h → row_of s t.class t.newline_before ≡ o → Sound t.class (Want s first from ∷ st.stack) st → K (Want s first from ∷ st.stack) (t ∷ ts)
@@ -371,7 +357,7 @@ module _ (m : Maker) (maker : IsMaker m) (K : List Frame → List Lookahead → 
       → go_on (use_token b s from t st) h g ≡ Some (Accepted all) → Builds m (Want (symbols.Take x) first from ∷ st.stack) st (t ∷ ts) (l ∷ ls) all
   token_used true x s first from t st ts l ls h g takes next leaf sound k e =
       let rest = next (with_token t.class from st) (λ d. sound_next (symbols.Take x) first from t.class d st sound) (closes.token x first from st.stack t ts takes k) e in
-      (Took ∷ rest.0, rest.1 ∙ one_then st.events rest.0 Took, token_made m x first from t ts l ls st rest.0 takes leaf sound (closes.arrow x first from st.stack t ts takes k) rest.2)
+      (Took ∷ rest.0, rest.1 ∙ append_assoc st.events (Took ∷ []) rest.0, token_made m x first from t ts l ls st rest.0 takes leaf sound (closes.arrow x first from st.stack t ts takes k) rest.2)
   token_used false x s first from t st ts l ls h g takes next leaf sound k e = stopped_not (stuck s st.before t) all e
 
   semicolon_used : (a b : Bool) (first : Class) (from : ℕ) (t : Lookahead) (st : State) (ts : List Lookahead) (l : Leaf) (ls : List Leaf) (h g : State → Option Outcome)
@@ -379,13 +365,13 @@ module _ (m : Maker) (maker : IsMaker m) (K : List Frame → List Lookahead → 
       → go_on (cond a (use_token true symbols.Semi from t st) (cond b (Stay (record st { events = st.events ++ Inserted ∷ [] })) (use_token false symbols.Semi from t st))) h g ≡ Some (Accepted all) → Builds m (Want symbols.Semi first from ∷ st.stack) st (t ∷ ts) (l ∷ ls) all
   semicolon_used true b first from t st ts l ls h g takes here next sound k e =
       let rest = next (with_token t.class from st) (λ d. sound_next symbols.Semi first from t.class d st sound) (closes.semicolon first from st.stack t ts takes k) e in
-      (Took ∷ rest.0, rest.1 ∙ one_then st.events rest.0 Took, semicolon_made m first from t ts l ls st rest.0 takes sound rest.2)
+      (Took ∷ rest.0, rest.1 ∙ append_assoc st.events (Took ∷ []) rest.0, semicolon_made m first from t ts l ls st rest.0 takes sound rest.2)
   semicolon_used false true first from t st ts l ls h g takes here next sound k e =
       let f = sound_pop symbols.Semi first from t.class st.stack st refl sound in
       let after : State = record st { events = st.events ++ Inserted ∷ [] } in
       let facts : Sound t.class st.stack after = record { chain = f.chain; linked = f.linked; late = f.late; closed = f.closed } in
       let rest = here after facts (closes.inserted first from st.stack (t ∷ ts) k) e in
-      (Inserted ∷ rest.0, rest.1 ∙ one_then st.events rest.0 Inserted, inserted_made m first from (t ∷ ts) (l ∷ ls) st.stack st after rest.0 refl refl refl rest.2)
+      (Inserted ∷ rest.0, rest.1 ∙ append_assoc st.events (Inserted ∷ []) rest.0, inserted_made m first from (t ∷ ts) (l ∷ ls) st.stack st after rest.0 refl refl refl rest.2)
   semicolon_used false false first from t st ts l ls h g takes here next sound k e = stopped_not (stuck symbols.Semi st.before t) all e
 
   kind_used : (kind : Kind) (s : Symbol) (first : Class) (from : ℕ) (t : Lookahead) (st : State) (ts : List Lookahead) (l : Leaf) (ls : List Leaf) (h g : State → Option Outcome)
@@ -426,7 +412,7 @@ module _ (m : Maker) (maker : IsMaker m) (K : List Frame → List Lookahead → 
   same_events events e = cc
 
   finished : (over : ℕ) (fs : List Frame) (st : State) (ls : List Leaf) → LeavesAre [] ls → Some (finish over fs st.events) ≡ Some (Accepted all) → Builds m fs st [] ls all
-  finished over [] st [] leaves e = ([], same_events st.events e ∙ with_none st.events, λ o arrow agree back. (refl, refl))
+  finished over [] st [] leaves e = ([], same_events st.events e ∙ sym (append-nil st.events), λ o arrow agree back. (refl, refl))
   finished over [] st (l ∷ ls) leaves e = absurd leaves
   finished over (f ∷ fs) st ls leaves e = stopped_not (Syntax over) all e
 

@@ -16,12 +16,12 @@ use Rattle.js_machine.proofs.Work.{vanishes}
 use Rattle.js_tree.specs.Nodes.{Maker}
 use Rattle.js_tree.specs.declared.parts.Part.{Part}
 use Rattle.js_tree.specs.declared.parts.Part.TheVariants as parts
-use Rattle.js_tree.proofs.Sorts.{PartSort, Token, PartIs}
+use Rattle.js_tree.proofs.Sorts.{PartIs}
 use Rattle.js_tree.proofs.Shapes.{and_left, and_right}
 use Rattle.js_tree.proofs.Gathers.{PartsAre}
 use Rattle.js_tree.proofs.Table.{part_of, one_node, operators, many}
 use Rattle.js_tree.proofs.Suits.{Left, Anything, NameAt, HeadAt, NoHead, is_name, is_head, after, after_by, From, StandsAt, NameStandsAt, OperandIs, NoEndings, NoValues, Role, IsToken, Passes, PassesAny, Commas, Arrows, Labels, Operand, HeadOperand, Plain, role_of, Goes, SuitsAt, Suits, Chain, is_late, OpenAt, Open, passes, hands_head, is_ready, in_chain, is_new, Linked}
-use Rattle.js_tree.proofs.Roles.{vanishing_passes, vanishing_any, vanishing_commas, late_arrows, late_labels, token_part, passing_part, any_part, comma_part, operand_part, head_part}
+use Rattle.js_tree.proofs.Roles.{vanishing, asking, part_at, part_by}
 
 -- an operand of the number n or a later one
 abbrev pub AtLeast : ℕ → Left → Type 0
@@ -55,17 +55,17 @@ goes_on s first from n o K rest ih late (inr x) = inr x
 forget_at : (m : Maker) (r : Role) (s : Symbol) (first : Class) (from n : ℕ) (o : Left) (p : Part) (K : Left → Type 0) (rest : Type 0) → role_of s ≡ r → AtLeast n o → OpenAt (is_late s) (vanishes s) n from rest → (rest → K o → K Anything)
     → SuitsAt m r s first from o p K → SuitsAt m r s first from Anything p K
 forget_at m (IsToken t) s first from n o p K rest e least late ih is = is
-forget_at m Passes s first from n o p K rest e least late ih (inl (non, k)) = inl (non, ih (open_under (is_late s) (vanishes s) n from rest (vanishing_passes s e) late) k)
+forget_at m Passes s first from n o p K rest e least late ih (inl (non, k)) = inl (non, ih (open_under (is_late s) (vanishes s) n from rest (vanishing s Passes e refl) late) k)
 forget_at m Passes s first from n o p K rest e least late ih (inr (is, non, k)) = inr (is, tt, k)
-forget_at m PassesAny s first from n o p K rest e least late ih (is, inl k) = (is, inl (ih (open_under (is_late s) (vanishes s) n from rest (vanishing_any s e) late) k))
+forget_at m PassesAny s first from n o p K rest e least late ih (is, inl k) = (is, inl (ih (open_under (is_late s) (vanishes s) n from rest (vanishing s PassesAny e refl) late) k))
 forget_at m PassesAny s first from n o p K rest e least late ih (is, inr (non, k)) = (is, inr (tt, k))
-forget_at m Commas s first from n o p K rest e least late ih (inl (non, k)) = inl (non, ih (open_under (is_late s) (vanishes s) n from rest (vanishing_commas s e) late) k)
+forget_at m Commas s first from n o p K rest e least late ih (inl (non, k)) = inl (non, ih (open_under (is_late s) (vanishes s) n from rest (vanishing s Commas e refl) late) k)
 forget_at m Commas s first from n o p K rest e least late ih (inr (is, non, k)) = inr (is, tt, k)
-forget_at m Arrows s first from n o p K rest e least late ih (inl (inl (non, head, k))) = inl (inl (non, tt, ih (open_late (is_late s) (vanishes s) n from rest (late_arrows s e).0 late).1 k))
+forget_at m Arrows s first from n o p K rest e least late ih (inl (inl (non, head, k))) = inl (inl (non, tt, ih (open_late (is_late s) (vanishes s) n from rest (asking s Arrows e refl) late).1 k))
 forget_at m Arrows s first from n o p K rest e least late ih (inl (inr (is, non, k))) = inl (inr (is, tt, k))
-forget_at m Arrows s first from n o p K rest e least late ih (inr (is, at, k)) = no_stand _ n from o least (open_late (is_late s) (vanishes s) n from rest (late_arrows s e).0 late).0 at
+forget_at m Arrows s first from n o p K rest e least late ih (inr (is, at, k)) = no_stand _ n from o least (open_late (is_late s) (vanishes s) n from rest (asking s Arrows e refl) late).0 at
 forget_at m Labels s first from n o p K rest e least late ih (inl (non, goes)) = inl (non, goes_on s first from n o K rest ih late goes)
-forget_at m Labels s first from n o p K rest e least late ih (inr (is, at, k)) = no_name_stand _ n from o least (open_late (is_late s) (vanishes s) n from rest (late_labels s e) late).0 at
+forget_at m Labels s first from n o p K rest e least late ih (inr (is, at, k)) = no_name_stand _ n from o least (open_late (is_late s) (vanishes s) n from rest (asking s Labels e refl) late).0 at
 forget_at m Operand s first from n o p K rest e least late ih is = is
 forget_at m HeadOperand s first from n o p K rest e least late ih is = is
 forget_at m Plain s first from n o p K rest e least late ih (is, goes) = (is, goes_on s first from n o K rest ih late goes)
@@ -83,13 +83,13 @@ in_chain_passes s r e is = ap (λ r. hands_head r || is_new s) e ∙ ap (λ b. b
 
 no_head_at : (m : Maker) (r : Role) (s : Symbol) (first : Class) (from n k : ℕ) (p : Part) (K : Left → Type 0) (rest ready : Type 0) → role_of s ≡ r → passes r ≡ true → n ≤ k → OpenAt (is_late s) (vanishes s) n from rest
     → (in_chain s ≡ true → ready) → (ready → rest → K (HeadAt k) → ⊥) → SuitsAt m r s first from (HeadAt k) p K → ⊥
-no_head_at m Passes s first from n k p K rest ready e is least late linked ih (inl (non, x)) = ih (linked (in_chain_passes s Passes e refl)) (open_under (is_late s) (vanishes s) n from rest (vanishing_passes s e) late) x
+no_head_at m Passes s first from n k p K rest ready e is least late linked ih (inl (non, x)) = ih (linked (in_chain_passes s Passes e refl)) (open_under (is_late s) (vanishes s) n from rest (vanishing s Passes e refl) late) x
 no_head_at m Passes s first from n k p K rest ready e is least late linked ih (inr (a, non, x)) = non
-no_head_at m PassesAny s first from n k p K rest ready e is least late linked ih (a, inl x) = ih (linked (in_chain_passes s PassesAny e refl)) (open_under (is_late s) (vanishes s) n from rest (vanishing_any s e) late) x
+no_head_at m PassesAny s first from n k p K rest ready e is least late linked ih (a, inl x) = ih (linked (in_chain_passes s PassesAny e refl)) (open_under (is_late s) (vanishes s) n from rest (vanishing s PassesAny e refl) late) x
 no_head_at m PassesAny s first from n k p K rest ready e is least late linked ih (a, inr (non, x)) = non
 no_head_at m Arrows s first from n k p K rest ready e is least late linked ih (inl (inl (non, head, x))) = head
 no_head_at m Arrows s first from n k p K rest ready e is least late linked ih (inl (inr (a, non, x))) = non
-no_head_at m Arrows s first from n k p K rest ready e is least late linked ih (inr (a, at, x)) = no_stand ⊥ n from (HeadAt k) least (open_late (is_late s) (vanishes s) n from rest (late_arrows s e).0 late).0 at
+no_head_at m Arrows s first from n k p K rest ready e is least late linked ih (inr (a, at, x)) = no_stand ⊥ n from (HeadAt k) least (open_late (is_late s) (vanishes s) n from rest (asking s Arrows e refl) late).0 at
 no_head_at m _ s first from n k p K rest ready e is least late linked ih x = cc
 
 pub no_head : (m : Maker) (n k : ℕ) (fs : List Frame) (ps : List Part) → is_ready fs ≡ true → Linked fs → Open n fs → n ≤ k → Suits m fs (HeadAt k) ps → ⊥
@@ -143,8 +143,8 @@ apart_role c _ = true
 abbrev Apart : Maker → Symbol → Class → ℕ → Left → Part → (Left → Type 0) → Type 0
 Apart m s c n o p K = (x : Left) × ((vanishes s ≡ true) × (x ≡ o) ⊎ From c n x) × PartIs m (part_of s) p × K x
 
-a_part : (m : Maker) (a b : PartSort) (p : Part) → a ≡ b → PartIs m a p → PartIs m b p
-a_part m a b p e is = subst (λ s. PartIs m s p) e is
+a_part : (m : Maker) (r : Role) (s : Symbol) (p : Part) → role_of s ≡ r → PartIs m (part_at r (part_of s)) p → PartIs m (part_of s) p
+a_part m r s p e is = subst (λ t. PartIs m t p) (part_by s r e) is
 
 not_both : (A : Type 0) (b : Bool) → not b ≡ true → b ≡ true → A
 not_both A true e f = cc
@@ -164,17 +164,17 @@ goes_apart m s c n o p K is (inr (x, from, k)) = (x, inr from, is, k)
 
 apart_at : (m : Maker) (r : Role) (s : Symbol) (c : Class) (n : ℕ) (o : Left) (p : Part) (K : Left → Type 0) → role_of s ≡ r → apart_role c r ≡ true → (hands_head r ≡ true → (k : ℕ) → n < k → K (HeadAt k) → ⊥)
     → SuitsAt m r s c n o p K → Apart m s c n o p K
-apart_at m (IsToken t) s c n o p K e ok refuted (is, k) = (after t c n, inr (from_after t c n), a_part m (Token t) (part_of s) p (token_part s t e) is, k)
-apart_at m Passes s c n o p K e ok refuted (inl (non, k)) = (o, inl (vanishing_passes s e, refl), a_part m operators (part_of s) p (passing_part s e) (no_endings m p non), k)
-apart_at m Passes s c n o p K e ok refuted (inr (is, non, k)) = (Anything, inr tt, a_part m operators (part_of s) p (passing_part s e) is, k)
-apart_at m PassesAny s c n o p K e ok refuted (is, inl k) = (o, inl (vanishing_any s e, refl), a_part m operators (part_of s) p (any_part s e) is, k)
-apart_at m PassesAny s c n o p K e ok refuted (is, inr (non, k)) = (Anything, inr tt, a_part m operators (part_of s) p (any_part s e) is, k)
-apart_at m Commas s c n o p K e ok refuted (inl (non, k)) = (o, inl (vanishing_commas s e, refl), a_part m (many (field.Node unions.Expression)) (part_of s) p (comma_part s e) (no_values m p non), k)
-apart_at m Commas s c n o p K e ok refuted (inr (is, non, k)) = (Anything, inr tt, a_part m (many (field.Node unions.Expression)) (part_of s) p (comma_part s e) is, k)
+apart_at m (IsToken t) s c n o p K e ok refuted (is, k) = (after t c n, inr (from_after t c n), a_part m (IsToken t) s p e is, k)
+apart_at m Passes s c n o p K e ok refuted (inl (non, k)) = (o, inl (vanishing s Passes e refl, refl), a_part m Passes s p e (no_endings m p non), k)
+apart_at m Passes s c n o p K e ok refuted (inr (is, non, k)) = (Anything, inr tt, a_part m Passes s p e is, k)
+apart_at m PassesAny s c n o p K e ok refuted (is, inl k) = (o, inl (vanishing s PassesAny e refl, refl), a_part m PassesAny s p e is, k)
+apart_at m PassesAny s c n o p K e ok refuted (is, inr (non, k)) = (Anything, inr tt, a_part m PassesAny s p e is, k)
+apart_at m Commas s c n o p K e ok refuted (inl (non, k)) = (o, inl (vanishing s Commas e refl, refl), a_part m Commas s p e (no_values m p non), k)
+apart_at m Commas s c n o p K e ok refuted (inr (is, non, k)) = (Anything, inr tt, a_part m Commas s p e is, k)
 apart_at m Arrows s c n o p K e ok refuted is = cc
 apart_at m Labels s c n o p K e ok refuted is = cc
-apart_at m Operand s c n o p K e ok refuted (x, from, non, is, k) = (x, inr from, a_part m (one_node unions.Expression) (part_of s) p (operand_part s e) (operand_is m x p non is), k)
-apart_at m HeadOperand s c n o p K e ok refuted (x, from, is, k) = (x, inr from, a_part m (one_node unions.Expression) (part_of s) p (head_part s e) (operand_is m x p (no_head_here m c n x K ok (refuted refl) from k) is), k)
+apart_at m Operand s c n o p K e ok refuted (x, from, non, is, k) = (x, inr from, a_part m Operand s p e (operand_is m x p non is), k)
+apart_at m HeadOperand s c n o p K e ok refuted (x, from, is, k) = (x, inr from, a_part m HeadOperand s p e (operand_is m x p (no_head_here m c n x K ok (refuted refl) from k) is), k)
 apart_at m Plain s c n o p K e ok refuted (is, goes) = goes_apart m s c n o p K is goes
 
 abbrev pub all_apart : Class → List Symbol → Bool

@@ -1,14 +1,12 @@
 -- What a row's own part may be, found from what it has gathered.
-use Rattle.std.proofs.Common.{◌≡◌, Bool, true, false, ◌&&◌, ◌||◌, inl, List, [], ◌∷◌, ◌++◌, Ok, refl, sym, ap, subst, length}
+use Rattle.std.proofs.Common.{◌≡◌, Bool, true, false, ◌&&◌, inl, List, [], ◌∷◌, ◌++◌, Ok, sym, ap, subst, length}
 use Rattle.std.specs.Prelude.{◌==◌}
-use Rattle.std.proofs.lemmas.Bool.{eq-eqb}
 use Rattle.bast_schema.specs.declared.kind.FieldType.{FieldType}
 use Rattle.bast_schema.specs.declared.kind.FieldType.TheVariants as field
 use Rattle.bast_schema.specs.declared.kind.Kind.{Kind}
 use Rattle.bast_schema.specs.declared.kind.Union.{Union}
 use Rattle.bast_schema.specs.declared.kind.Union.TheVariants as unions
 use Rattle.bast_schema.specs.Fields.{fields}
-use Rattle.bast_schema.specs.Kinds.{same_kind, number}
 use Rattle.bast_schema.specs.Counts.{join}
 use Rattle.bast_schema.specs.Tree.{Tree, Datum, child, Data, more, fit}
 use Rattle.js_tree.specs.Finishes.{Finished}
@@ -22,7 +20,7 @@ use Rattle.js_tree.specs.declared.parts.Ending.TheVariants as endings
 use Rattle.js_tree.proofs.Sorts.{Sort, Of, Fits, Rest, Nothing, Holds, Tail, NoTail, Turns, Names, Fills, Any, OneName, Head, PartSort, Values, Endings, Items, PartIs, AreEndings, Is, IsMaker, Safely, TurnsTo, IsOperand, Operand, Filling, OneOf, within, suits, suit, shape_within, sorts_of}
 use Rattle.js_tree.proofs.Shapes.{and_left, and_right, joined, suits_sound, suit_sound, shape_sound}
 use Rattle.js_tree.proofs.Gathers.{PartsAre}
-use Rattle.js_tree.proofs.Safe.{safely_bind, safely_map, widened, made_in}
+use Rattle.js_tree.proofs.Safe.{safely_bind, safely_map, widened, made_in, self_within}
 
 -- the row's own part is of the sort, above those parts
 abbrev pub Makes : Maker → PartSort → List Part → Finished → Type 0
@@ -167,13 +165,6 @@ pub after_sound : (m : Maker) (k : Kind) (x : Tail) (v : Union) (es : List Endin
 after_sound m k NoTail v es w is = no_endings m (unions.One k) v es w is
 after_sound m k (Turns (Any u) x) v es w is = λ t e. safely_map (Is x) (Is v) (folded m es t) (λ y. widened x v y (and_right (within (unions.One k) u) _ w)) (is t (widened (unions.One k) u t (and_left _ _ w) e))
 after_sound m k _ v es w is = cc
-
-pub self_within : (k : Kind) → within (unions.One k) (unions.One k) ≡ true
-self_within k = within_self (same_kind k k) (eq-eqb (number k) (number k) refl)
-  where
-    within_self : (b : Bool) → b ≡ true → ((b || false) && true) ≡ true
-    within_self true e = refl
-    within_self false e = e
 
 pub around : (m : Maker) → IsMaker m → (o : Operand) (v : Union) (k : Kind) (form : Form) (before behind : Data) (es : List Ending)
     → ((t : Tree) → IsOperand o t → Safely (λ d. fit (fields k) (join before (more d behind)) ≡ true) (stands m form t))

@@ -10,6 +10,7 @@ use Rattle.bast_schema.specs.declared.kind.Union.TheVariants as unions
 use Rattle.bast_schema.specs.Fields.{fields}
 use Rattle.bast_schema.specs.Tree.{items_fit}
 use Rattle.js_grammar.specs.declared.class.Class.{Class}
+use Rattle.js_grammar.specs.declared.symbols.Terminal.{Terminal}
 use Rattle.js_grammar.specs.Classes.{classes_of}
 use Rattle.js_tree.specs.Nodes.{Maker}
 use Rattle.js_tree.specs.declared.parts.Part.{Part}
@@ -67,30 +68,49 @@ abbrev pub skips : Shape → List PartSort → Checked
 skips a [] = None
 skips a (s ∷ ss) = Some (a, ss)
 
+-- the part on top, where it is of that sort
+abbrev pub on_values : List PartSort → (List FieldType → Rest → List PartSort → Checked) → Checked
+on_values (Values ts r ∷ ss) f = f ts r ss
+on_values _ f = None
+
+abbrev pub on_one : List PartSort → (FieldType → List PartSort → Checked) → Checked
+on_one (Values (s ∷ []) Nothing ∷ ss) f = f s ss
+on_one _ f = None
+
+abbrev pub on_token : List PartSort → (Terminal → List PartSort → Checked) → Checked
+on_token (Token t ∷ ss) f = f t ss
+on_token _ f = None
+
+abbrev pub on_endings : List PartSort → (Tail → List PartSort → Checked) → Checked
+on_endings (Endings e ∷ ss) f = f e ss
+on_endings _ f = None
+
+abbrev pub on_items : List PartSort → (List PartSort → Checked) → Checked
+on_items (Items ∷ ss) f = f ss
+on_items _ f = None
+
 abbrev pub puts : Shape → List PartSort → Checked
-puts a (Values ts r ∷ ss) = add (sorts_of ts) r a ss
-puts a _ = None
+puts a ss = on_values ss (λ ts r ss. add (sorts_of ts) r a ss)
 
 abbrev pub wraps_to : Option FieldType → Shape → List PartSort → Checked
 wraps_to None a ss = None
 wraps_to (Some t) a ss = add_one t a ss
 
 abbrev pub wraps : Shape → List PartSort → Checked
-wraps a (Values ts r ∷ ss) = wraps_to (wrapped ts r) a ss
-wraps a _ = None
+wraps a ss = on_values ss (λ ts r ss. wraps_to (wrapped ts r) a ss)
 
 abbrev pub takes_token : (Class → Bool) → FieldType → Shape → List PartSort → Checked
-takes_token p u a (Token t ∷ ss) = guard (list_all p (classes_of t)) (add_one u a ss)
-takes_token p u a _ = None
+takes_token p u a ss = on_token ss (λ t ss. guard (list_all p (classes_of t)) (add_one u a ss))
 
 abbrev pub bound : Shape → List PartSort → Checked
-bound a (Token t ∷ Values (field.Optional u ∷ []) Nothing ∷ ss) = guard (list_all tells_text (classes_of t) && within u unions.Expression) (add_one (field.Node unions.Parameter) a ss)
-bound a _ = None
+bound a ss = on_token ss (λ t ss. guard (list_all tells_text (classes_of t)) (on_one ss (λ s ss. guard (suits (Of s) (field.Optional unions.Expression)) (add_one (field.Node unions.Parameter) a ss))))
+
+abbrev pub pieces_to : FieldType → List FieldType → Rest → Shape → List PartSort → Checked
+pieces_to s [] r a ss = None
+pieces_to s (t ∷ ts) r a ss = guard (suits (Of s) (field.Node unions.Expression) && suits (Of t) field.Text) (add (Of (a_node kinds.TemplatePart) ∷ sorts_of ts) r a ss)
 
 abbrev pub pieces : Shape → List PartSort → Checked
-pieces a (Values (s ∷ []) Nothing ∷ Values (t ∷ ts) r ∷ ss) =
-    guard (suits (Of s) (field.Node unions.Expression) && suits (Of t) field.Text) (add (Of (a_node kinds.TemplatePart) ∷ sorts_of ts) r a ss)
-pieces a _ = None
+pieces a ss = on_one ss (λ s ss. on_values ss (λ ts r ss. pieces_to s ts r a ss))
 
 abbrev pub join_tail : Tail → Tail → Option Tail
 join_tail NoTail e = Some e
@@ -102,12 +122,10 @@ tails_to None a ss = None
 tails_to (Some e) a ss = Some (record a { tail = e }, ss)
 
 abbrev pub tails : Shape → List PartSort → Checked
-tails a (Endings e ∷ ss) = tails_to (join_tail a.tail e) a ss
-tails a _ = None
+tails a ss = on_endings ss (λ e ss. tails_to (join_tail a.tail e) a ss)
 
 abbrev pub rests : Shape → List PartSort → Checked
-rests a (Items ∷ ss) = Some (a, ss)
-rests a _ = None
+rests a ss = on_items ss (λ ss. Some (a, ss))
 
 abbrev pub all_statements : FieldType
 all_statements = field.List unions.Statement false false
@@ -116,8 +134,7 @@ abbrev pub all_directives : FieldType
 all_directives = field.List (unions.One kinds.Directive) false false
 
 abbrev pub lists : Shape → List PartSort → Checked
-lists a (Items ∷ ss) = add_one all_statements a ss
-lists a _ = None
+lists a ss = on_items ss (λ ss. add_one all_statements a ss)
 
 abbrev pub holds_on : Rest → Shape → List PartSort → Checked
 holds_on Nothing a ss = Some (record a { front = []; rest = Nothing; held = a.front }, ss)

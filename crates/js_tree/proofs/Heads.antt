@@ -16,7 +16,7 @@ use Rattle.js_grammar.specs.declared.symbols.Symbol.{Symbol}
 use Rattle.js_grammar.specs.declared.symbols.Symbol.TheVariants as symbols
 use Rattle.js_grammar.specs.declared.symbols.RowId.{RowId}
 use Rattle.js_grammar.specs.declared.symbols.RowId.TheVariants as rows
-use Rattle.js_grammar.specs.Classes.{takes_class, classes_of, same_class}
+use Rattle.js_grammar.specs.Classes.{takes_class, classes_of}
 use Rattle.js_grammar.specs.Choice.{row_of}
 use Rattle.js_grammar.specs.Rows.{row_symbols}
 use Rattle.js_grammar.proofs.Each.{all_classes, each_class}
@@ -25,7 +25,7 @@ use Rattle.js_machine.specs.declared.events.Frame.TheVariants.{Want, EndMark}
 use Rattle.js_machine.specs.declared.lookahead.Lookahead.{Lookahead}
 use Rattle.js_machine.specs.Machine.{want_all, under_mark}
 use Rattle.js_tree.proofs.Shapes.{and_left, and_right}
-use Rattle.js_tree.proofs.Safe.{same_classes, taken_is}
+use Rattle.js_tree.proofs.Safe.{taken_is, among_one}
 use Rattle.js_tree.proofs.Suits.{is_name, is_head, after_by}
 use Rattle.js_tree.proofs.Rowwise.{not_arrow}
 use Rattle.js_tree.proofs.Accepted.{ArrowNext, Closes, is_function}
@@ -62,21 +62,17 @@ abbrev pub role_of_symbol : Symbol → Role
 role_of_symbol (symbols.Take x) = role_of_terminal x
 role_of_symbol _ = Other
 
-abbrev is_other : Role → Bool
+abbrev pub is_other : Role → Bool
 is_other Other = true
 is_other _ = false
 
-other_is : (r : Role) → is_other r ≡ true → Other ≡ r
+pub other_is : (r : Role) → is_other r ≡ true → Other ≡ r
 other_is Other e = refl
 other_is _ e = cc
 
 opening_is : (r : Role) → is_opening r ≡ true → Opens ≡ r
 opening_is Opens e = refl
 opening_is _ e = cc
-
-or_none : (b : Bool) → (b || false) ≡ true → b ≡ true
-or_none true e = refl
-or_none false e = e
 
 operators_other : (l : Level) (q : Mode) → list_all (λ c. is_other (role_of_class c)) (classes_of (terminals.Operator l q)) ≡ true
 operators_other levels.Relational modes.WithIn = refl
@@ -85,7 +81,7 @@ operators_other levels.LogicalOr q = refl
 operators_other _ q = refl
 
 taken_role : (x : Terminal) (c : Class) → takes_class x c ≡ true → role_of_terminal x ≡ role_of_class c
-taken_role (terminals.One k) c e = ap role_of_class (sym (same_classes c k (or_none (same_class c k) e)))
+taken_role (terminals.One k) c e = ap role_of_class (sym (among_one c k e))
 taken_role terminals.OpenParen c e = opening_is (role_of_class c) (taken_is (λ c. is_opening (role_of_class c)) terminals.OpenParen c e refl)
 taken_role terminals.Ident c e = other_is (role_of_class c) (taken_is (λ c. is_other (role_of_class c)) terminals.Ident c e refl)
 taken_role terminals.Bind c e = other_is (role_of_class c) (taken_is (λ c. is_other (role_of_class c)) terminals.Bind c e refl)
@@ -252,7 +248,7 @@ paired_other s c true r other e = paired_of (row_of s c true) c r (and_left (pai
 paired_other s c false r other e = paired_of (row_of s c false) c r (and_right (pairs_chosen c (row_of s c true)) (pairs_chosen c (row_of s c false)) (not_first (is_function s) (pairs_chosen c (row_of s c true) && pairs_chosen c (row_of s c false)) other (each_class (pairs_ok s) (all_paired s) c))) e
 
 function_paired : (c : Class) → takes_class (terminals.One classes.Function) c ≡ true → pairs true false (is_head c) (row_symbols rows.Function) ≡ true
-function_paired c e = ap (λ c. pairs true false (is_head c) (row_symbols rows.Function)) (same_classes c classes.Function (or_none (same_class c classes.Function) e))
+function_paired c e = ap (λ c. pairs true false (is_head c) (row_symbols rows.Function)) (among_one c classes.Function e)
 
 paired : (s : Symbol) (c : Class) (newline : Bool) (r : RowId) → row_of s c newline ≡ Some r → (is_function s ≡ true → takes_class (terminals.One classes.Function) c ≡ true) → pairs true false (is_head c) (row_symbols r) ≡ true
 paired symbols.Function c newline r e new = let same : rows.Function ≡ r = cc in subst (λ r. pairs true false (is_head c) (row_symbols r) ≡ true) same (function_paired c (new refl))
@@ -271,7 +267,7 @@ heads_mark f p d false fs ts is = is
 
 head_next : (t : Lookahead) (ts : List Lookahead) → Marked (t ∷ ts) → is_head t.class ≡ true → next_head (t ∷ ts) ≡ true
 head_next t ts marked e =
-    let same : t.class ≡ classes.HeadParen = same_classes t.class classes.HeadParen (or_none (same_class t.class classes.HeadParen) e) in
+    let same : t.class ≡ classes.HeadParen = among_one t.class classes.HeadParen e in
     ap (λ c. is_opening (role_of_class c) && behind 0 ts) same ∙ marked.0 e
 
 no_arrow : {A : Type 0} (c : Class) → role_of_class c ≡ Arrow → A
@@ -284,7 +280,7 @@ token_next Closing first t ts fs e is = fresh fs false 0 ts (closed fs false 0 t
 token_next Arrow first t ts fs e is = no_arrow t.class (sym e)
 token_next Other first t ts fs e is = fresh fs false 0 ts (other_taken fs false false 0 t ts (sym e) is)
 
-not_not : (b : Bool) → not b ≡ true → b ≡ false
+pub not_not : (b : Bool) → not b ≡ true → b ≡ false
 not_not true e = cc
 not_not false e = refl
 
@@ -312,7 +308,7 @@ heads_close = record {
   );
   inserted = λ first from fs ts is. (fresh fs false 0 ts is.0, is.1);
   semicolon = λ first from fs t ts e is.
-      (fresh fs false 0 ts (other_taken fs false false 0 t ts (ap role_of_class (same_classes t.class classes.Semicolon (or_none (same_class t.class classes.Semicolon) e))) is.0), is.1.1);
+      (fresh fs false 0 ts (other_taken fs false false 0 t ts (ap role_of_class (among_one t.class classes.Semicolon e)) is.0), is.1.1);
   token = λ x first from fs t ts e is. (token_next (role_of_terminal x) first t ts fs (taken_role x t.class e) is.0, is.1.1);
   arrow = λ x first from fs t ts e is.
       arrow_if (takes_class x first && is_name first) (takes_class x classes.CloseParen && is_head first) from ts (λ both.

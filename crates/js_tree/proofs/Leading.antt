@@ -1,5 +1,5 @@
 -- Why the steps of an accepted run lead from a script to nothing.
-use Rattle.std.proofs.Common.{◌≡◌, ℕ, zero, suc, Bool, true, false, cond, length, List, [], ◌∷◌, ◌++◌, Option, Some, None, refl, sym, ap, ◌∙◌, subst}
+use Rattle.std.proofs.Common.{◌≡◌, ℕ, zero, suc, Bool, true, false, cond, length, List, [], ◌∷◌, ◌++◌, Option, Some, None, refl, sym, ap, ◌∙◌, subst, append-nil, append_assoc}
 use Rattle.js_grammar.proofs.Begins.{chosen_in}
 use Rattle.js_grammar.specs.Choice.{row_of}
 use Rattle.js_grammar.specs.Classes.{takes_class, is_among}
@@ -34,14 +34,6 @@ wanted (Want s first from ∷ fs) = s ∷ wanted fs
 abbrev Led : List Frame → List Event → List Event → Type 0
 Led fs events all = (more : List Event) × (all ≡ events ++ more) × Leads (wanted fs) more
 
-one_then : (es more : List Event) (e : Event) → (es ++ e ∷ []) ++ more ≡ es ++ e ∷ more
-one_then [] more e = refl
-one_then (x ∷ es) more e = ap (λ l. x ∷ l) (one_then es more e)
-
-with_none : (es : List Event) → es ≡ es ++ []
-with_none [] = refl
-with_none (x ∷ es) = ap (λ l. x ∷ l) (with_none es)
-
 wanted_all : (first : Class) (from : ℕ) (ss : List Symbol) (fs : List Frame) → wanted (want_all first from ss ++ fs) ≡ ss ++ wanted fs
 wanted_all first from [] fs = refl
 wanted_all first from (s ∷ ss) fs = ap (λ l. s ∷ l) (wanted_all first from ss fs)
@@ -61,16 +53,16 @@ leaf_of_semicolon (symbols.Take t) e = refl
 leaf_of_semicolon _ e = cc
 
 by_token : (fs : List Frame) (s : Symbol) (first : Class) (from : ℕ) (events all : List Event) → is_leaf s ≡ true → Led fs (events ++ Took ∷ []) all → Led (Want s first from ∷ fs) events all
-by_token fs s first from events all leaf (more, same, d) = (Took ∷ more, same ∙ one_then events more Took, took s (wanted fs) more leaf d)
+by_token fs s first from events all leaf (more, same, d) = (Took ∷ more, same ∙ append_assoc events (Took ∷ []) more, took s (wanted fs) more leaf d)
 
 by_counting : (fs : List Frame) (s : Symbol) (first : Class) (from : ℕ) (events all : List Event) → is_leaf s ≡ true → Led fs (events ++ Inserted ∷ []) all → Led (Want s first from ∷ fs) events all
-by_counting fs s first from events all leaf (more, same, d) = (Inserted ∷ more, same ∙ one_then events more Inserted, counts s (wanted fs) more leaf d)
+by_counting fs s first from events all leaf (more, same, d) = (Inserted ∷ more, same ∙ append_assoc events (Inserted ∷ []) more, counts s (wanted fs) more leaf d)
 
 by_row : (r : RowId) (c : Class) (newline : Bool) (s : Symbol) (first : Class) (from : ℕ) (st : State) (all : List Event)
     → row_of s c newline ≡ Some r → Led (with_row r c st).stack (st.events ++ Row r ∷ []) all → Led (Want s first from ∷ st.stack) st.events all
 by_row r c newline s first from st all e (more, same, d) =
     let symbols_are = wanted_all c st.taken (row_symbols r) (under_mark (is_marked r) st.stack) ∙ ap (λ l. row_symbols r ++ l) (wanted_mark (is_marked r) st.stack)
-    in (Row r ∷ more, same ∙ one_then st.events more (Row r), expands s r (wanted st.stack) more (chosen_in s c newline (alternatives s) r e) (subst (λ ss. Leads ss more) symbols_are d))
+    in (Row r ∷ more, same ∙ append_assoc st.events (Row r ∷ []) more, expands s r (wanted st.stack) more (chosen_in s c newline (alternatives s) r e) (subst (λ ss. Leads ss more) symbols_are d))
 
 stopped_not : {A : Type 0} (p : Stop) (all : List Event) → Some (Stopped p) ≡ Some (Accepted all) → A
 stopped_not p all e = cc
@@ -119,7 +111,7 @@ same_events : {events all : List Event} → Some (Accepted events) ≡ Some (Acc
 same_events e = cc
 
 finished : (at : ℕ) (fs : List Frame) (events all : List Event) → Some (finish at fs events) ≡ Some (Accepted all) → Led fs events all
-finished at [] events all e = ([], same_events e ∙ with_none events, over)
+finished at [] events all e = ([], same_events e ∙ sym (append-nil events), over)
 finished at (f ∷ fs) events all e = stopped_not (Syntax at) all e
 
 not_done : {A : Type 0} (all : List Event) → None ≡ Some (Accepted all) → A

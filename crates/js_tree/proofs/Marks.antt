@@ -1,13 +1,11 @@
 -- The tokens of a text tell what the stack waits for, and their leaves what the recipes ask of them.
-use Rattle.std.proofs.Common.{◌≡◌, ℕ, zero, suc, Bool, true, false, not, ◌&&◌, ◌||◌, cond, List, [], ◌∷◌, refl, ap, ◌∙◌}
+use Rattle.std.proofs.Common.{◌≡◌, ℕ, zero, suc, Bool, true, false, not, ◌&&◌, ◌||◌, cond, List, [], ◌∷◌, refl, ap, ◌∙◌, sym}
 use Rattle.js_tokens.specs.declared.kinds.Token.{Token}
 use Rattle.js_tokens.specs.declared.kinds.TokenKind.{TokenKind}
 use Rattle.js_tokens.specs.declared.kinds.TokenKind.TheVariants as tokens
-use Rattle.js_tokens.specs.declared.kinds.Word.{Word}
 use Rattle.js_tokens.specs.declared.kinds.Word.TheVariants as words
 use Rattle.js_tokens.specs.declared.kinds.Mark.{Mark}
 use Rattle.js_tokens.specs.declared.kinds.Mark.TheVariants as marks
-use Rattle.js_tokens.specs.declared.kinds.Piece.{Piece}
 use Rattle.js_tokens.specs.declared.kinds.Piece.TheVariants as pieces
 use Rattle.js_tokens.specs.declared.heads.Role.{Role}
 use Rattle.js_tokens.specs.declared.heads.Role.TheVariants.{Opens, Closes as Closing, Arrow, Other}
@@ -15,11 +13,14 @@ use Rattle.js_tokens.specs.Heads.{at_role, is_opening, is_arrow, role_of, arrow_
 use Rattle.js_grammar.specs.declared.class.Class.{Class}
 use Rattle.js_grammar.specs.declared.class.Class.TheVariants as classes
 use Rattle.js_grammar.specs.Classes.{is_among}
-use Rattle.js_grammar.specs.TokenClasses.{class_of_kind, class_of_identifier, class_of_word, class_of_mark, class_of_piece, bytes_between}
+use Rattle.js_grammar.specs.TokenClasses.{class_of_kind, class_of_identifier, class_of_mark, bytes_between}
 use Rattle.js_machine.specs.Lookahead.{seen}
 use Rattle.js_tree.proofs.Shapes.{and_right}
 use Rattle.js_tree.proofs.Suits.{is_head}
-use Rattle.js_tree.proofs.Heads.{role_of_class, arrow_at, behind, Marked}
+use Rattle.js_tree.proofs.Heads.{role_of_class, arrow_at, behind, Marked, is_other, other_is, not_not}
+use Rattle.std.specs.List.{list_all}
+use Rattle.js_tree.proofs.Sorts.{name_classes, word_classes}
+use Rattle.js_tree.proofs.Safe.{among_all}
 
 -- one of four classes
 of_four : (P : Class → Type 0) (a b d : Bool) → P classes.Of → P classes.Get → P classes.Set → P classes.Identifier → P (cond a classes.Of (cond b classes.Get (cond d classes.Set classes.Identifier)))
@@ -31,6 +32,29 @@ of_four P false false false p q r s = s
 pub identifier_class : (P : Class → Type 0) (name : List ℕ) → P classes.Of → P classes.Get → P classes.Set → P classes.Identifier → P (class_of_identifier name)
 identifier_class P name p q r s = of_four P _ _ _ p q r s
 
+abbrev pub is_mark : TokenKind → Bool
+is_mark (tokens.Punctuator m) = true
+is_mark _ = false
+
+-- the classes of the tokens of a kind
+abbrev pub kind_classes : TokenKind → List Class
+kind_classes (tokens.Reserved w) = word_classes
+kind_classes (tokens.Number n) = classes.Number ∷ []
+kind_classes _ = classes.End ∷ name_classes
+
+kind_class : (text : List ℕ) (t : Token) (k : TokenKind) → is_mark k ≡ false → is_among (class_of_kind text t k) (kind_classes k) ≡ true
+kind_class text t tokens.Identifier e = identifier_class (λ c. is_among c (classes.End ∷ name_classes) ≡ true) (bytes_between text t.from t.to) refl refl refl refl
+kind_class text t (tokens.Reserved words.Break) e = refl
+kind_class text t (tokens.Reserved _) e = refl
+kind_class text t (tokens.Punctuator m) e = cc
+kind_class text t (tokens.Template pieces.Whole) e = refl
+kind_class text t (tokens.Template _) e = refl
+kind_class text t _ e = refl
+
+-- what is so of these classes is so of the token
+pub by_kind : (p : Class → Bool) (text : List ℕ) (t : Token) (k : TokenKind) → list_all p (kind_classes k) ≡ true → is_mark k ≡ false → p (class_of_kind text t k) ≡ true
+by_kind p text t k all e = among_all p (kind_classes k) (class_of_kind text t k) (kind_class text t k e) all
+
 abbrev SameRole : Role → Role → Type 0
 SameRole a b = (d : ℕ) (here : Bool) (on : ℕ → Bool) → at_role a d here on ≡ at_role b d here on
 
@@ -39,22 +63,9 @@ mark_role marks.OpenParen true d here on = refl
 mark_role marks.OpenParen false d here on = refl
 mark_role _ h d here on = refl
 
-word_role : (w : Word) → SameRole (role_of_class (class_of_word w)) Other
-word_role words.Break d here on = refl
-word_role _ d here on = refl
-
-piece_role : (p : Piece) → SameRole (role_of_class (class_of_piece p)) Other
-piece_role pieces.Whole d here on = refl
-piece_role _ d here on = refl
-
 class_role : (text : List ℕ) (t : Token) (k : TokenKind) → SameRole (role_of_class (class_of_kind text t k)) (role_of k)
-class_role text t tokens.Identifier d here on = identifier_class (λ c. at_role (role_of_class c) d here on ≡ on d) (bytes_between text t.from t.to) refl refl refl refl
-class_role text t (tokens.Reserved w) d here on = word_role w d here on
 class_role text t (tokens.Punctuator m) d here on = mark_role m t.head d here on
-class_role text t (tokens.Number n) d here on = refl
-class_role text t tokens.Text d here on = refl
-class_role text t (tokens.Template p) d here on = piece_role p d here on
-class_role text t tokens.End d here on = refl
+class_role text t k d here on = ap (λ r. at_role r d here on) (sym (other_is (role_of_class (class_of_kind text t k)) (by_kind (λ c. is_other (role_of_class c)) text t k refl refl)))
 
 abbrev is_arrow_class : Class → Bool
 is_arrow_class c = is_among c (classes.Arrow ∷ [])
@@ -64,22 +75,9 @@ mark_arrow marks.OpenParen true = refl
 mark_arrow marks.OpenParen false = refl
 mark_arrow _ h = refl
 
-word_arrow : (w : Word) → is_arrow_class (class_of_word w) ≡ false
-word_arrow words.Break = refl
-word_arrow _ = refl
-
-piece_arrow : (p : Piece) → is_arrow_class (class_of_piece p) ≡ false
-piece_arrow pieces.Whole = refl
-piece_arrow _ = refl
-
 class_arrow : (text : List ℕ) (t : Token) (k : TokenKind) → is_arrow_class (class_of_kind text t k) ≡ is_arrow (role_of k)
-class_arrow text t tokens.Identifier = identifier_class (λ c. is_arrow_class c ≡ false) (bytes_between text t.from t.to) refl refl refl refl
-class_arrow text t (tokens.Reserved w) = word_arrow w
 class_arrow text t (tokens.Punctuator m) = mark_arrow m t.head
-class_arrow text t (tokens.Number n) = refl
-class_arrow text t tokens.Text = refl
-class_arrow text t (tokens.Template p) = piece_arrow p
-class_arrow text t tokens.End = refl
+class_arrow text t k = not_not (is_arrow_class (class_of_kind text t k)) (by_kind (λ c. not (is_arrow_class c)) text t k refl refl)
 
 not_or : (a b : Bool) → not (not a || b) ≡ (a && not b)
 not_or true b = refl
@@ -108,22 +106,9 @@ mark_head marks.OpenParen true e = refl
 mark_head marks.OpenParen false e = cc
 mark_head _ h e = cc
 
-word_head : {A : Type 0} (w : Word) → is_head (class_of_word w) ≡ true → A
-word_head words.Break e = cc
-word_head _ e = cc
-
-piece_head : {A : Type 0} (p : Piece) → is_head (class_of_piece p) ≡ true → A
-piece_head pieces.Whole e = cc
-piece_head _ e = cc
-
 marked_head : (text : List ℕ) (t : Token) (k : TokenKind) → is_head (class_of_kind text t k) ≡ true → t.head ≡ true
-marked_head text t tokens.Identifier e = let other : is_head (class_of_identifier (bytes_between text t.from t.to)) ≡ false = identifier_class (λ c. is_head c ≡ false) (bytes_between text t.from t.to) refl refl refl refl in cc
-marked_head text t (tokens.Reserved w) e = word_head w e
 marked_head text t (tokens.Punctuator m) e = mark_head m t.head e
-marked_head text t (tokens.Number n) e = cc
-marked_head text t tokens.Text e = cc
-marked_head text t (tokens.Template p) e = piece_head p e
-marked_head text t tokens.End e = cc
+marked_head text t k e = let other : is_head (class_of_kind text t k) ≡ false = not_not (is_head (class_of_kind text t k)) (by_kind (λ c. not (is_head c)) text t k refl refl) in cc
 
 -- the heads among the tokens of a text are marked
 pub tokens_marked : (text : List ℕ) (us : List Token) → Marked (seen text (with_heads us))

@@ -1,71 +1,59 @@
 -- What each symbol is by its role.
-use Rattle.std.proofs.Common.{◌≡◌, true, refl}
+use Rattle.std.proofs.Common.{◌≡◌, Bool, true, false, refl, sym, ap, ◌∙◌}
 use Rattle.bast_schema.specs.declared.kind.FieldType.TheVariants as field
 use Rattle.bast_schema.specs.declared.kind.Union.TheVariants as unions
-use Rattle.js_grammar.specs.declared.symbols.Terminal.{Terminal}
 use Rattle.js_grammar.specs.declared.symbols.Symbol.{Symbol}
 use Rattle.js_grammar.specs.declared.symbols.Symbol.TheVariants as symbols
 use Rattle.js_machine.proofs.Work.{vanishes}
-use Rattle.js_tree.proofs.Sorts.{Token}
+use Rattle.js_tree.proofs.Sorts.{NoTail, PartSort, Token, Endings, leads}
 use Rattle.js_tree.proofs.Table.{part_of, one_node, operators, many}
-use Rattle.js_tree.proofs.Suits.{IsToken, Passes, PassesAny, Commas, Arrows, Labels, Operand, HeadOperand, role_of, is_late}
+use Rattle.js_tree.proofs.Suits.{Role, IsToken, Passes, PassesAny, Commas, Arrows, Labels, Operand, HeadOperand, Plain, role_of, is_late}
 
-pub vanishing_passes : (s : Symbol) → role_of s ≡ Passes → vanishes s ≡ true
-vanishing_passes symbols.LhsTail e = refl
-vanishing_passes symbols.MemberTail e = refl
-vanishing_passes symbols.Again e = refl
-vanishing_passes symbols.Post e = refl
-vanishing_passes (symbols.LevelTail n m) e = refl
-vanishing_passes (symbols.CondTail m) e = refl
-vanishing_passes _ e = cc
+pub leads_true : (a b : Bool) → leads a b ≡ true → a ≡ true → b ≡ true
+leads_true true b e f = e
+leads_true false b e f = cc
 
-pub vanishing_any : (s : Symbol) → role_of s ≡ PassesAny → vanishes s ≡ true
-vanishing_any symbols.NewArgs e = refl
-vanishing_any _ e = cc
+-- what puts something around an operand may stand for nothing
+abbrev pub turns_on : Role → Bool
+turns_on Passes = true
+turns_on PassesAny = true
+turns_on Commas = true
+turns_on Arrows = true
+turns_on _ = false
 
-pub vanishing_commas : (s : Symbol) → role_of s ≡ Commas → vanishes s ≡ true
-vanishing_commas (symbols.Comma m) e = refl
-vanishing_commas _ e = cc
+may_vanish : (s : Symbol) → leads (turns_on (role_of s)) (vanishes s) ≡ true
+may_vanish symbols.Script = refl
+may_vanish _ = refl
 
-pub late_arrows : (s : Symbol) → role_of s ≡ Arrows → (is_late s ≡ true) × (vanishes s ≡ true)
-late_arrows (symbols.AssignTail m) e = (refl, refl)
-late_arrows _ e = cc
+pub vanishing : (s : Symbol) (r : Role) → role_of s ≡ r → turns_on r ≡ true → vanishes s ≡ true
+vanishing s r e on = leads_true (turns_on (role_of s)) (vanishes s) (may_vanish s) (ap turns_on e ∙ on)
 
-pub late_labels : (s : Symbol) → role_of s ≡ Labels → is_late s ≡ true
-late_labels symbols.Label e = refl
-late_labels _ e = cc
+-- what asks for an operand of its own is late
+abbrev pub asks : Role → Bool
+asks Arrows = true
+asks Labels = true
+asks _ = false
 
-pub token_part : (s : Symbol) (t : Terminal) → role_of s ≡ IsToken t → Token t ≡ part_of s
-token_part (symbols.Take t) u e = cc
-token_part _ u e = cc
+may_ask : (s : Symbol) → leads (asks (role_of s)) (is_late s) ≡ true
+may_ask symbols.Script = refl
+may_ask _ = refl
 
-pub passing_part : (s : Symbol) → role_of s ≡ Passes → operators ≡ part_of s
-passing_part symbols.LhsTail e = refl
-passing_part symbols.MemberTail e = refl
-passing_part symbols.Again e = refl
-passing_part symbols.Post e = refl
-passing_part (symbols.LevelTail n m) e = refl
-passing_part (symbols.CondTail m) e = refl
-passing_part _ e = cc
+pub asking : (s : Symbol) (r : Role) → role_of s ≡ r → asks r ≡ true → is_late s ≡ true
+asking s r e on = leads_true (asks (role_of s)) (is_late s) (may_ask s) (ap asks e ∙ on)
 
-pub any_part : (s : Symbol) → role_of s ≡ PassesAny → operators ≡ part_of s
-any_part symbols.NewArgs e = refl
-any_part _ e = cc
+-- the part of a symbol of a role
+abbrev pub part_at : Role → PartSort → PartSort
+part_at (IsToken t) other = Token t
+part_at Commas other = many (field.Node unions.Expression)
+part_at Labels other = Endings NoTail
+part_at Operand other = one_node unions.Expression
+part_at HeadOperand other = one_node unions.Expression
+part_at Plain other = other
+part_at _ other = operators
 
-pub comma_part : (s : Symbol) → role_of s ≡ Commas → many (field.Node unions.Expression) ≡ part_of s
-comma_part (symbols.Comma m) e = refl
-comma_part _ e = cc
+part_is : (s : Symbol) → part_at (role_of s) (part_of s) ≡ part_of s
+part_is symbols.Script = refl
+part_is _ = refl
 
-pub operand_part : (s : Symbol) → role_of s ≡ Operand → one_node unions.Expression ≡ part_of s
-operand_part (symbols.Expr m) e = refl
-operand_part (symbols.Assign m) e = refl
-operand_part _ e = cc
-
-pub head_part : (s : Symbol) → role_of s ≡ HeadOperand → one_node unions.Expression ≡ part_of s
-head_part (symbols.Cond m) e = refl
-head_part (symbols.Level n m) e = refl
-head_part symbols.Unary e = refl
-head_part symbols.Lhs e = refl
-head_part symbols.Callee e = refl
-head_part symbols.Primary e = refl
-head_part _ e = cc
+pub part_by : (s : Symbol) (r : Role) → role_of s ≡ r → part_at r (part_of s) ≡ part_of s
+part_by s r e = ap (λ r. part_at r (part_of s)) (sym e) ∙ part_is s

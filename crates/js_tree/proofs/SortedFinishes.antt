@@ -1,5 +1,5 @@
 -- Why what a row leaves is of the sort that is found for it.
-use Rattle.std.proofs.Common.{◌≡◌, ℕ, Bool, true, false, ◌&&◌, ◌||◌, inl, inr, List, [], ◌∷◌, ◌++◌, Option, None, Result, Ok, refl, sym, ap, ◌∙◌, subst, length, cond}
+use Rattle.std.proofs.Common.{◌≡◌, ℕ, Bool, true, false, ◌&&◌, inl, inr, List, [], ◌∷◌, ◌++◌, Option, None, Result, Ok, refl, sym, ap, ◌∙◌, subst, length, cond}
 use Rattle.std.specs.Prelude.{◌==◌}
 use Rattle.std.proofs.lemmas.Bool.{eqb-true}
 use lib.Dec.{eqb}
@@ -29,7 +29,7 @@ use Rattle.js_tree.specs.declared.work.Work.{Work}
 use Rattle.js_tree.proofs.Sorts.{Sort, Of, Fits, Rest, Nothing, Holds, Tail, NoTail, Turns, Names, Fills, Binds, Any, OneName, Head, Values, Endings, PartIs, AreEndings, Is, IsMaker, Safely, TurnsTo, IsOperand, Operand, CanFill, Filling, Binding, OneOf, within, suits, suit}
 use Rattle.js_tree.proofs.Shapes.{and_left, and_right, both, three, joined, suits_sound, suit_sound}
 use Rattle.js_tree.proofs.Gathers.{Shape, WorkIs, a_node, all_statements}
-use Rattle.js_tree.proofs.Safe.{safely_bind, safely_map, widened, made_in}
+use Rattle.js_tree.proofs.Safe.{safely_bind, safely_map, widened, made_in, or_none}
 use Rattle.js_tree.proofs.Closing.{Makes, turns_target, at_turns, on_top, operand_within, operand_sound, tail_after, after_sound, around, held_around, plainly}
 
 none_of : (es : List Ending) → (length es == 0) ≡ true → es ≡ []
@@ -226,12 +226,8 @@ a_parameter m maker n =
 pub other_kind : (j k : Kind) (n : ℕ) → number j ≡ n → eqb n (number k) ≡ false → same_kind j k ≡ false
 other_kind j k n e other = ap (λ x. eqb x (number k)) e ∙ other
 
-or_false : (b : Bool) → (b || false) ≡ true → b ≡ true
-or_false true e = refl
-or_false false e = e
-
 pub kind_is : (k : Kind) (t : Tree) → Is (unions.One k) t → number k ≡ number (kind_of t)
-kind_is k t is = eqb-true (number k) (number (kind_of t)) (or_false (same_kind k (kind_of t)) (and_left (allowed (unions.One k) (kind_of t)) (typed t) is))
+kind_is k t is = eqb-true (number k) (number (kind_of t)) (or_none (same_kind k (kind_of t)) (and_left (allowed (unions.One k) (kind_of t)) (typed t) is))
 
 no_identifier : (b : Bool) (o : Option ℕ) → b ≡ false → cond b o None ≡ None
 no_identifier true o e = cc

@@ -1,5 +1,5 @@
 -- What the values of a symbol may be, and what is put around an operand: tests that compute, and what they stand for.
-use Rattle.std.proofs.Common.{◌≡◌, ℕ, Bool, true, false, not, ◌&&◌, ◌||◌, ◌⊎◌, List, [], ◌∷◌, Option, Some, None, Result, Ok, Err, length, nat_lt, ◌^◌}
+use Rattle.std.proofs.Common.{◌≡◌, ℕ, Bool, true, false, not, ◌&&◌, ◌||◌, ◌⊎◌, List, [], ◌∷◌, ◌++◌, Option, Some, None, Result, Ok, Err, length, nat_lt, ◌^◌}
 use Rattle.std.specs.Prelude.{◌==◌}
 use Rattle.std.specs.List.{list_all}
 use Rattle.bast_base.specs.declared.errors.NameId.{NameId}
@@ -19,7 +19,7 @@ use Rattle.bast_schema.specs.Unions.{allowed, kinds_in}
 use Rattle.js_grammar.specs.declared.class.Class.{Class}
 use Rattle.js_grammar.specs.declared.class.Class.TheVariants as classes
 use Rattle.js_grammar.specs.declared.symbols.Terminal.{Terminal}
-use Rattle.js_grammar.specs.Classes.{takes_class}
+use Rattle.js_grammar.specs.Classes.{takes_class, is_among}
 use Rattle.js_tree.specs.Nodes.{Maker, folded, identifier}
 use Rattle.js_tree.specs.Operators.{operator}
 use Rattle.js_tree.specs.declared.fault.Fault.{Fault}
@@ -243,49 +243,23 @@ AreItems [] = Unit {0}
 AreItems (i ∷ is) = Is unions.Statement i.statement × AreItems is
 
 -- the classes of tokens that have a text
+abbrev pub name_classes : List Class
+name_classes =
+    classes.Identifier ∷ classes.Of ∷ classes.Get ∷ classes.Set ∷ classes.Text ∷ classes.TemplateWhole ∷ classes.TemplateHead ∷
+    classes.TemplateMiddle ∷ classes.TemplateTail ∷ []
+
+abbrev pub word_classes : List Class
+word_classes =
+    classes.Instanceof ∷ classes.In ∷ classes.UnaryWord ∷ classes.This ∷ classes.Null ∷ classes.True ∷ classes.False ∷ classes.New ∷
+    classes.Function ∷ classes.Let ∷ classes.Const ∷ classes.Var ∷ classes.Debugger ∷ classes.If ∷ classes.Else ∷ classes.For ∷ classes.While ∷
+    classes.Do ∷ classes.Continue ∷ classes.Break ∷ classes.Return ∷ classes.Throw ∷ classes.Switch ∷ classes.Case ∷ classes.Default ∷
+    classes.Try ∷ classes.Catch ∷ classes.Finally ∷ classes.OtherWord ∷ []
+
+abbrev pub told_classes : List Class
+told_classes = classes.Number ∷ (name_classes ++ word_classes)
+
 abbrev pub tells_text : Class → Bool
-tells_text classes.End = false
-tells_text classes.Semicolon = false
-tells_text classes.Identifier = true
-tells_text classes.Of = true
-tells_text classes.Get = true
-tells_text classes.Set = true
-tells_text classes.Number = true
-tells_text classes.Text = true
-tells_text classes.TemplateWhole = true
-tells_text classes.TemplateHead = true
-tells_text classes.TemplateMiddle = true
-tells_text classes.TemplateTail = true
-tells_text classes.Instanceof = true
-tells_text classes.In = true
-tells_text classes.UnaryWord = true
-tells_text classes.This = true
-tells_text classes.Null = true
-tells_text classes.True = true
-tells_text classes.False = true
-tells_text classes.New = true
-tells_text classes.Function = true
-tells_text classes.Let = true
-tells_text classes.Const = true
-tells_text classes.Var = true
-tells_text classes.Debugger = true
-tells_text classes.If = true
-tells_text classes.Else = true
-tells_text classes.For = true
-tells_text classes.While = true
-tells_text classes.Do = true
-tells_text classes.Continue = true
-tells_text classes.Break = true
-tells_text classes.Return = true
-tells_text classes.Throw = true
-tells_text classes.Switch = true
-tells_text classes.Case = true
-tells_text classes.Default = true
-tells_text classes.Try = true
-tells_text classes.Catch = true
-tells_text classes.Finally = true
-tells_text classes.OtherWord = true
-tells_text _ = false
+tells_text c = is_among c told_classes
 
 abbrev pub is_number : Class → Bool
 is_number classes.Number = true

@@ -1,11 +1,12 @@
 -- The rows that pass an operand on, ask for one of their own, or make one.
-use Rattle.std.proofs.Common.{◌≡◌, ℕ, ◌≤◌, Bool, true, false, ◌&&◌, ◌||◌, ◌⊎◌, inl, inr, List, [], ◌∷◌, ◌++◌, Option, Some, None, refl, sym, ap, subst, arith}
+use Rattle.std.proofs.Common.{◌≡◌, ℕ, ◌≤◌, Bool, true, false, ◌&&◌, ◌⊎◌, inl, inr, List, [], ◌∷◌, ◌++◌, Option, Some, None, refl, sym, ap, subst, arith}
 use Rattle.bast_schema.specs.declared.kind.FieldType.TheVariants as field
 use Rattle.bast_schema.specs.declared.kind.Kind.TheVariants as kinds
 use Rattle.bast_schema.specs.declared.kind.Union.TheVariants as unions
 use Rattle.bast_schema.specs.Tree.{child, none, more}
 use Rattle.js_grammar.specs.declared.class.Class.{Class}
 use Rattle.js_grammar.specs.declared.class.Class.TheVariants as classes
+use Rattle.js_grammar.specs.declared.symbols.Symbol.{Symbol}
 use Rattle.js_grammar.specs.declared.symbols.Symbol.TheVariants as symbols
 use Rattle.js_grammar.specs.declared.symbols.RowId.{RowId}
 use Rattle.js_grammar.specs.Classes.{takes_class}
@@ -18,7 +19,7 @@ use Rattle.js_tree.specs.declared.parts.Part.TheVariants as parts
 use Rattle.js_tree.proofs.Sorts.{Turns, NoTail, OneName, Head, PartSort, Endings, PartIs}
 use Rattle.js_tree.proofs.Gathers.{PartsAre}
 use Rattle.js_tree.proofs.Table.{one_node, operators, many}
-use Rattle.js_tree.proofs.Suits.{Left, Anything, NameAt, HeadAt, NoHead, is_name, is_head, after, after_by, From, StandsAt, NameStandsAt, OperandIs, NoEndings, HeadOperand, role_of, Goes, SuitsAt, Suits}
+use Rattle.js_tree.proofs.Suits.{Left, Anything, NameAt, HeadAt, NoHead, is_name, is_head, after, after_by, From, StandsAt, NameStandsAt, OperandIs, NoEndings, Passes, HeadOperand, role_of, Goes, SuitsAt, Suits}
 use Rattle.std.proofs.Common.{length, Result, Ok, Err, cond}
 use Rattle.std.specs.Prelude.{◌==◌}
 use Rattle.bast_base.specs.declared.errors.NameId.{NameId}
@@ -28,7 +29,6 @@ use Rattle.js_grammar.specs.declared.symbols.Level.{Level}
 use Rattle.js_grammar.specs.declared.symbols.Level.TheVariants as levels
 use Rattle.js_grammar.specs.declared.symbols.Mode.{Mode}
 use Rattle.js_grammar.specs.declared.symbols.RowId.TheVariants as rows
-use Rattle.js_grammar.specs.Classes.{is_among}
 use Rattle.js_grammar.specs.Rows.{row_symbols, next_level}
 use Rattle.js_tree.specs.Image.{row_part}
 use Rattle.js_tree.specs.Finishes.{folds, statement, sequence, with_values}
@@ -41,58 +41,23 @@ use Rattle.js_tree.specs.declared.leaf.Leaf.{Leaf}
 use Rattle.js_tree.specs.declared.parts.Ending.{Ending}
 use Rattle.js_tree.proofs.Sorts.{IsMaker, Safely, Is, IsOperand, TurnsTo}
 use Rattle.js_tree.proofs.Shapes.{both}
-use Rattle.js_tree.proofs.Safe.{safely_map, safely_bind, made_in, taken_is}
+use Rattle.js_tree.proofs.Safe.{safely_map, safely_bind, made_in, taken_is, among_one}
 use Rattle.js_tree.proofs.Closing.{Makes, on_top}
 use Rattle.js_tree.proofs.SortedFinishes.{folded_one, fold_of}
 use Rattle.js_tree.proofs.Filling.{row_fits, row_sound}
 use Rattle.js_tree.proofs.Table.{row_parts, head_fits, label_fits}
 use Rattle.js_tree.proofs.Apart.{forget, operand_is, taken_apart}
-use Rattle.js_grammar.specs.Classes.{same_class}
 use Rattle.js_grammar.specs.declared.symbols.Terminal.TheVariants as terminals
 use Rattle.js_tree.specs.Steps.{with_value, no_work, gathered}
 use Rattle.js_tree.specs.Finishes.{finish_on}
 use Rattle.js_tree.specs.declared.recipe.Finish.TheVariants as finishes
 use Rattle.js_tree.proofs.Sorts.{tells_text}
-use Rattle.js_tree.proofs.Safe.{same_classes}
-use Rattle.js_tree.proofs.Rowwise.{Goal, from_back, from_least, put_on, OnArrow, not_arrow}
+use Rattle.js_tree.proofs.Rowwise.{Goal, from_back, from_least, put_on, non_head}
 
 -- rows that stand for nothing
-pub lhs_tail_empty : (m : Maker) → Goal m symbols.LhsTail rows.LhsTailEmpty
-unfolding row_part
-lhs_tail_empty m c n newline first from fs o ps here is = inl (tt, is)
-
-pub member_tail_empty : (m : Maker) → Goal m symbols.MemberTail rows.MemberTailEmpty
-unfolding row_part
-member_tail_empty m c n newline first from fs o ps here is = inl (tt, is)
-
-pub post_empty : (m : Maker) → Goal m symbols.Post rows.PostEmpty
-unfolding row_part
-post_empty m c n newline first from fs o ps here is = inl (tt, is)
-
-pub level_tail_empty : (m : Maker) (l : Level) (q : Mode) → Goal m (symbols.LevelTail l q) (rows.LevelTailEmpty l q)
-unfolding row_part
-level_tail_empty m l q c n newline first from fs o ps here is = inl (tt, is)
-
-pub cond_tail_empty : (m : Maker) (q : Mode) → Goal m (symbols.CondTail q) (rows.CondTailEmpty q)
-unfolding row_part
-cond_tail_empty m q c n newline first from fs o ps here is = inl (tt, is)
-
-pub comma_empty : (m : Maker) (q : Mode) → Goal m (symbols.Comma q) (rows.CommaEmpty q)
-unfolding row_part
-comma_empty m q c n newline first from fs o ps here is = inl (tt, is)
-
-false_true : {A : Type 0} (b : Bool) → b ≡ false → b ≡ true → A
-false_true true e f = cc
-false_true false e f = cc
-
-head_out : (c : Class) (newline : Bool) (o : Left) → not_arrow c newline ≡ true → OnArrow c newline o → NoHead o
-head_out c newline Anything e is = tt
-head_out c newline (NameAt n) e is = tt
-head_out c newline (HeadAt n) e is = false_true (not_arrow c newline) is e
-
 pub assign_tail_empty : (m : Maker) (q : Mode) → Goal m (symbols.AssignTail q) (rows.AssignTailEmpty q)
 unfolding row_part
-assign_tail_empty m q c n newline first from fs o ps here is = inl (inl (tt, head_out c newline o here.ok here.arrow, is))
+assign_tail_empty m q c n newline first from fs o ps here is = inl (inl (tt, non_head c newline o here.ok here.arrow, is))
 
 pub new_args_empty : (m : Maker) → IsMaker m → Goal m symbols.NewArgs rows.NewArgsEmpty
 new_args_empty m maker c n newline first from fs o ps here is =
@@ -149,48 +114,25 @@ chained : (m : Maker) → IsMaker m → (r : RowId) (P : List Part → Type 0) (
 chained m maker r P c n x raw_of K p q qs same fits next from is (inl (non, k)) = passed m r P x raw_of same p q qs (λ p is. next x p from is k) is non
 chained m maker r P c n x raw_of K p q qs same fits next from is (inr (is_q, non, k)) = turned m maker r P operators x p q qs fits (λ p is. next Anything p tt is k) non is is_q
 
-pub cond_row : (m : Maker) → IsMaker m → (q : Mode) → Goal m (symbols.Cond q) (rows.Cond q)
-unfolding row_part operand tail folds
-cond_row m maker q c n newline first from fs o (a ∷ b ∷ ps) here (x, starts, is, k) =
-    chained m maker (rows.Cond q) (Suits m (Want (symbols.Cond q) first from ∷ fs) o) c n x (λ r. r) (λ x. Suits m fs x ps) a b ps (λ t raw qs. refl) refl (λ x p f is k. (x, from_back c first n from x here.least here.same f, is, k)) starts is k
-cond_row m maker q c n newline first from fs o (a ∷ []) here (x, starts, is, k) = absurd k
-cond_row m maker q c n newline first from fs o [] here is = absurd is
+pub chained_row : (m : Maker) → IsMaker m → (s t u : Symbol) (r : RowId) (raw_of : Option NameId → Option NameId) → role_of s ≡ HeadOperand → role_of t ≡ HeadOperand → role_of u ≡ Passes → row_symbols r ≡ t ∷ u ∷ []
+    → ((t : Tree) (raw : Option NameId) (qs : List Part) → row_part m r (parts.Values (more (child t) none) raw ∷ parts.Endings [] ∷ qs) ≡ Ok (parts.Values (more (child t) none) (raw_of raw) ∷ qs))
+    → row_fits r (one_node unions.Expression ∷ operators ∷ []) (one_node unions.Expression) ≡ true → Goal m s r
+chained_row m maker s t u r raw_of s_is t_is u_is symbols_are same fits c n newline first from fs o ps here is =
+    on ps (subst (λ l. Suits m (want_all c n l ++ fs) o ps) symbols_are is)
+  where
+    on : (ps : List Part) → Suits m (Want t c n ∷ Want u c n ∷ fs) o ps → Safely (Suits m (Want s first from ∷ fs) o) (row_part m r ps)
+    on (a ∷ b ∷ ps) is =
+        let h : SuitsAt m HeadOperand t c n o a (λ x. Suits m (Want u c n ∷ fs) x (b ∷ ps)) = subst (λ r. SuitsAt m r t c n o a (λ x. Suits m (Want u c n ∷ fs) x (b ∷ ps))) t_is is in
+        chained m maker r (Suits m (Want s first from ∷ fs) o) c n h.0 raw_of (λ x. Suits m fs x ps) a b ps same fits
+        (λ x p f is k. subst (λ r. SuitsAt m r s first from o p (λ x. Suits m fs x ps)) (sym s_is) (x, from_back c first n from x here.least here.same f, is, k))
+        h.1 h.2 (subst (λ r. SuitsAt m r u c n h.0 b (λ x. Suits m fs x ps)) u_is h.3)
+    on (a ∷ []) is = absurd (let h : SuitsAt m HeadOperand t c n o a (λ x. Suits m (Want u c n ∷ fs) x []) = subst (λ r. SuitsAt m r t c n o a (λ x. Suits m (Want u c n ∷ fs) x [])) t_is is in h.3)
+    on [] is = absurd is
 
-pub unary_row : (m : Maker) → IsMaker m → Goal m symbols.Unary rows.UnaryLhs
-unfolding row_part operand tail folds
-unary_row m maker c n newline first from fs o (a ∷ b ∷ ps) here (x, starts, is, k) =
-    chained m maker rows.UnaryLhs (Suits m (Want symbols.Unary first from ∷ fs) o) c n x (λ r. r) (λ x. Suits m fs x ps) a b ps (λ t raw qs. refl) refl (λ x p f is k. (x, from_back c first n from x here.least here.same f, is, k)) starts is k
-unary_row m maker c n newline first from fs o (a ∷ []) here (x, starts, is, k) = absurd k
-unary_row m maker c n newline first from fs o [] here is = absurd is
-
-pub lhs_row : (m : Maker) → IsMaker m → Goal m symbols.Lhs rows.LhsPrimary
-unfolding row_part operand tail folds
-lhs_row m maker c n newline first from fs o (a ∷ b ∷ ps) here (x, starts, is, k) =
-    chained m maker rows.LhsPrimary (Suits m (Want symbols.Lhs first from ∷ fs) o) c n x (λ r. r) (λ x. Suits m fs x ps) a b ps (λ t raw qs. refl) refl (λ x p f is k. (x, from_back c first n from x here.least here.same f, is, k)) starts is k
-lhs_row m maker c n newline first from fs o (a ∷ []) here (x, starts, is, k) = absurd k
-lhs_row m maker c n newline first from fs o [] here is = absurd is
-
-pub callee_row : (m : Maker) → IsMaker m → Goal m symbols.Callee rows.CalleePrimary
-unfolding row_part put tail folds
-callee_row m maker c n newline first from fs o (a ∷ b ∷ ps) here (x, starts, is, k) =
-    chained m maker rows.CalleePrimary (Suits m (Want symbols.Callee first from ∷ fs) o) c n x (λ r. None) (λ x. Suits m fs x ps) a b ps (λ t raw qs. refl) refl (λ x p f is k. (x, from_back c first n from x here.least here.same f, is, k)) starts is k
-callee_row m maker c n newline first from fs o (a ∷ []) here (x, starts, is, k) = absurd k
-callee_row m maker c n newline first from fs o [] here is = absurd is
-
-next_role : (l : Level) (q : Mode) → role_of (next_level l q) ≡ HeadOperand
+pub next_role : (l : Level) (q : Mode) → role_of (next_level l q) ≡ HeadOperand
 next_role levels.Multiplicative q = refl
 next_role levels.LogicalOr q = refl
 next_role _ q = refl
-
-pub level_row : (m : Maker) → IsMaker m → (l : Level) (q : Mode) → Goal m (symbols.Level l q) (rows.Level l q)
-unfolding row_part operand tail folds
-level_row m maker l q c n newline first from fs o (a ∷ b ∷ ps) here is =
-    let h : SuitsAt m HeadOperand (next_level l q) c n o a (λ x. Suits m (Want (symbols.LevelTail l q) c n ∷ fs) x (b ∷ ps)) = subst (λ r. SuitsAt m r (next_level l q) c n o a (λ x. Suits m (Want (symbols.LevelTail l q) c n ∷ fs) x (b ∷ ps))) (next_role l q) is in
-    chained m maker (rows.Level l q) (Suits m (Want (symbols.Level l q) first from ∷ fs) o) c n h.0 (λ r. r) (λ x. Suits m fs x ps) a b ps (λ t raw qs. refl) refl (λ x p f is k. (x, from_back c first n from x here.least here.same f, is, k)) h.1 h.2 h.3
-level_row m maker l q c n newline first from fs o (a ∷ []) here is =
-    let h : SuitsAt m HeadOperand (next_level l q) c n o a (λ x. Suits m (Want (symbols.LevelTail l q) c n ∷ fs) x []) = subst (λ r. SuitsAt m r (next_level l q) c n o a (λ x. Suits m (Want (symbols.LevelTail l q) c n ∷ fs) x [])) (next_role l q) is in
-    absurd h.3
-level_row m maker l q c n newline first from fs o [] here is = absurd is
 
 -- expressions with commas between
 pub expr_row : (m : Maker) → IsMaker m → (q : Mode) → Goal m (symbols.Expr q) (rows.Expr q)
@@ -312,13 +254,6 @@ ident_row m maker c n newline first from fs o (_ ∷ ps) here (is, k) = absurd i
 ident_row m maker c n newline first from fs o [] here is = absurd is
 
 -- the head of an arrow function
-among_one : (c k : Class) → is_among c (k ∷ []) ≡ true → c ≡ k
-among_one c k e = same_classes c k (or_none (same_class c k) e)
-  where
-    or_none : (b : Bool) → (b || false) ≡ true → b ≡ true
-    or_none true e = refl
-    or_none false e = e
-
 after_close : (c : Class) (n : ℕ) → is_head c ≡ true → after (terminals.One classes.CloseParen) c n ≡ HeadAt n
 after_close c n e = ap (λ c. after (terminals.One classes.CloseParen) c n) (among_one c classes.HeadParen e)
 

@@ -1,18 +1,15 @@
 -- What the part of each symbol may be, and that the recipes of its rows make it so.
-use Rattle.std.proofs.Common.{◌≡◌, Bool, true, false, ◌||◌, List, [], ◌∷◌, map, refl}
-use Rattle.std.specs.List.{list_all}
+use Rattle.std.proofs.Common.{◌≡◌, true, List, [], ◌∷◌, map, refl}
 use Rattle.bast_schema.specs.declared.kind.FieldType.{FieldType}
 use Rattle.bast_schema.specs.declared.kind.FieldType.TheVariants as field
 use Rattle.bast_schema.specs.declared.kind.Kind.TheVariants as kinds
 use Rattle.bast_schema.specs.declared.kind.Union.{Union}
 use Rattle.bast_schema.specs.declared.kind.Union.TheVariants as unions
-use Rattle.js_grammar.specs.declared.symbols.Level.TheVariants as levels
-use Rattle.js_grammar.specs.declared.symbols.Mode.TheVariants as modes
 use Rattle.js_grammar.specs.declared.symbols.Symbol.{Symbol}
 use Rattle.js_grammar.specs.declared.symbols.Symbol.TheVariants as symbols
 use Rattle.js_grammar.specs.declared.symbols.RowId.{RowId}
 use Rattle.js_grammar.specs.declared.symbols.RowId.TheVariants as rows
-use Rattle.js_grammar.specs.Rows.{alternatives, row_symbols}
+use Rattle.js_grammar.specs.Rows.{row_symbols}
 use Rattle.js_tree.proofs.Sorts.{Nothing, Many, Maybe, Clauses, Parameters, NoTail, Turns, Names, Fills, Binds, Any, OneName, Head, PartSort, Token, Semicolon, Values, Endings, Items, case, declarators}
 use Rattle.js_tree.proofs.Filling.{row_fits, block}
 
@@ -105,27 +102,8 @@ part_of symbols.PropName = one_node unions.PropertyName
 part_of symbols.TplRest = many (field.Node (unions.One kinds.TemplatePart))
 part_of symbols.TplMore = Values (field.Text ∷ []) (Many (field.Node (unions.One kinds.TemplatePart)))
 
--- the rows that ask for an operand of another sort, or make one: an arrow and its head (14.2), a label (13.13)
-abbrev pub is_special : RowId → Bool
-is_special rows.PrimaryHead = true
-is_special (rows.AssignTailArrow m) = true
-is_special rows.LabelBody = true
-is_special _ = false
-
 abbrev pub row_parts : RowId → List PartSort
 row_parts r = map part_of (row_symbols r)
-
-abbrev pub fits_in : Symbol → RowId → Bool
-fits_in s r = is_special r || row_fits r (row_parts r) (part_of s)
-
-pub all_fit : (s : Symbol) → list_all (fits_in s) (alternatives s) ≡ true
-all_fit symbols.Script = refl
-all_fit (symbols.Level levels.Multiplicative m) = refl
-all_fit (symbols.Level _ m) = refl
-all_fit (symbols.LevelTail levels.Relational modes.WithIn) = refl
-all_fit (symbols.LevelTail levels.Relational modes.NoIn) = refl
-all_fit (symbols.LevelTail _ _) = refl
-all_fit _ = refl
 
 pub head_fits : row_fits rows.PrimaryHead (row_parts rows.PrimaryHead) (one_node (unions.One kinds.FormalParameters)) ≡ true
 head_fits = refl

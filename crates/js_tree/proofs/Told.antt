@@ -1,5 +1,5 @@
 -- What the machine accepts of the tokens of a text has a tree.
-use Rattle.std.proofs.Common.{◌≡◌, ◌≤◌, ◌<◌, ℕ, Bool, true, false, List, [], ◌∷◌, Option, Some, None, Result, Ok, Err, refl, sym, ap, ◌∙◌, subst, length, nat_lt, ◌^◌, arith}
+use Rattle.std.proofs.Common.{◌≡◌, ◌≤◌, ◌<◌, ℕ, Bool, true, false, List, [], ◌∷◌, Option, Some, None, Result, Ok, Err, refl, sym, ap, ◌∙◌, subst, length, nat_lt, ◌^◌, arith, not}
 use Rattle.js_tokens.specs.declared.kinds.Token.{Token}
 use Rattle.js_tokens.specs.declared.kinds.TokenKind.{TokenKind}
 use Rattle.js_tokens.specs.declared.kinds.TokenKind.TheVariants as tokens
@@ -7,12 +7,9 @@ use Rattle.js_tokens.specs.declared.kinds.Word.{Word}
 use Rattle.js_tokens.specs.declared.kinds.Word.TheVariants as words
 use Rattle.js_tokens.specs.declared.kinds.Mark.{Mark}
 use Rattle.js_tokens.specs.declared.kinds.Mark.TheVariants as marks
-use Rattle.js_tokens.specs.declared.kinds.Piece.{Piece}
-use Rattle.js_tokens.specs.declared.kinds.Piece.TheVariants as pieces
 use Rattle.js_tokens.specs.Spelling.{mark_text, word_text}
-use Rattle.js_grammar.specs.declared.class.Class.{Class}
 use Rattle.js_grammar.specs.declared.class.Class.TheVariants as classes
-use Rattle.js_grammar.specs.TokenClasses.{class_in, class_of_kind, class_of_identifier, class_of_word, class_of_mark, class_of_piece, bytes_between}
+use Rattle.js_grammar.specs.TokenClasses.{class_in, class_of_kind, class_of_word, class_of_mark}
 use Rattle.js_machine.specs.declared.events.Event.{Event}
 use Rattle.js_machine.specs.Lookahead.{seen}
 use Rattle.js_machine.specs.Machine.{Accepted, Ends}
@@ -30,15 +27,17 @@ use Rattle.js_tree.specs.declared.fault.Fault.{Fault}
 use Rattle.js_tree.specs.declared.fault.Fault.TheVariants as faults
 use Rattle.js_tree.specs.declared.leaf.Leaf.{Leaf}
 use Rattle.js_tree.specs.Tells.{has_text, Tells, LeavesTell, AcceptedHaveTrees}
-use Rattle.js_tree.proofs.Sorts.{LeafIs, tells_text, is_number, is_operator, IsMaker, Safely, Is}
+use Rattle.js_tree.proofs.Sorts.{LeafIs, tells_text, is_number, is_operator, IsMaker, Safely, Is, name_classes}
 use Rattle.js_tree.proofs.Small.{is_small, AreSmall, tokens_small}
 use Rattle.js_tree.proofs.Accepted.{LeavesAre}
-use Rattle.js_tree.proofs.Heads.{Marked, Waits, heads_close}
-use Rattle.js_tree.proofs.Marks.{identifier_class, tokens_marked}
+use Rattle.js_tree.proofs.Heads.{Marked, Waits, heads_close, not_not}
+use Rattle.js_tree.proofs.Marks.{tokens_marked, by_kind}
 use Rattle.js_tree.proofs.Trees.{accepted_tree, limited_makes, unlimited_makes}
 use Rattle.js_tree.proofs.FollowImage.{trees_are_same, deep_trees, trees_are_unrefused}
 use Rattle.js_tree.proofs.Following.{Unrefused}
 use Rattle.js_tree.proofs.TreesHold.{trees_are_shallow}
+use Rattle.std.specs.List.{list_all}
+use Rattle.js_tree.proofs.Shapes.{and_left, and_right}
 
 -- texts
 mark_told : {A : Type 0} (m : Mark) (h : Bool) → tells_text (class_of_mark m h) ≡ true → A
@@ -57,22 +56,10 @@ mark_number marks.OpenParen true e = cc
 mark_number marks.OpenParen false e = cc
 mark_number _ h e = cc
 
-word_number : {A : Type 0} (w : Word) → is_number (class_of_word w) ≡ true → A
-word_number words.Break e = cc
-word_number _ e = cc
-
-piece_number : {A : Type 0} (p : Piece) → is_number (class_of_piece p) ≡ true → A
-piece_number pieces.Whole e = cc
-piece_number _ e = cc
-
 numbers_told : (text : List ℕ) (t : Token) (k : TokenKind) → is_number (class_of_kind text t k) ≡ true → is_small k ≡ true → (n : ℕ) × (k ≡ tokens.Number n) × (nat_lt n (2 ^ 53) ≡ true)
-numbers_told text t tokens.Identifier e small = let other : is_number (class_of_identifier (bytes_between text t.from t.to)) ≡ false = identifier_class (λ c. is_number c ≡ false) (bytes_between text t.from t.to) refl refl refl refl in cc
-numbers_told text t (tokens.Reserved w) e small = word_number w e
-numbers_told text t (tokens.Punctuator m) e small = mark_number m t.head e
 numbers_told text t (tokens.Number n) e small = (n, refl, small)
-numbers_told text t tokens.Text e small = cc
-numbers_told text t (tokens.Template p) e small = piece_number p e
-numbers_told text t tokens.End e small = cc
+numbers_told text t (tokens.Punctuator m) e small = mark_number m t.head e
+numbers_told text t k e small = let other : is_number (class_of_kind text t k) ≡ false = not_not (is_number (class_of_kind text t k)) (by_kind (λ c. not (is_number c)) text t k refl refl) in cc
 
 -- operators
 abbrev in_set : EnumId → Option ℕ → Bool
@@ -109,31 +96,9 @@ word_set sets.BinaryOperator words.Break = refl
 word_set sets.CompoundOperator words.Break = refl
 word_set _ _ = refl
 
-piece_set : {A : Type 0} (e : EnumId) (p : Piece) → is_operator e (class_of_piece p) ≡ true → A
-piece_set sets.UnaryOperator pieces.Whole e = cc
-piece_set sets.UpdateOperator pieces.Whole e = cc
-piece_set sets.BinaryOperator pieces.Whole e = cc
-piece_set sets.CompoundOperator pieces.Whole e = cc
-piece_set _ _ e = cc
-
-name_set : {A : Type 0} (e : EnumId) (name : List ℕ) → is_operator e (class_of_identifier name) ≡ true → A
-name_set sets.UnaryOperator name e = let other : is_operator sets.UnaryOperator (class_of_identifier name) ≡ false = identifier_class (λ c. is_operator sets.UnaryOperator c ≡ false) name refl refl refl refl in cc
-name_set sets.UpdateOperator name e = let other : is_operator sets.UpdateOperator (class_of_identifier name) ≡ false = identifier_class (λ c. is_operator sets.UpdateOperator c ≡ false) name refl refl refl refl in cc
-name_set sets.BinaryOperator name e = let other : is_operator sets.BinaryOperator (class_of_identifier name) ≡ false = identifier_class (λ c. is_operator sets.BinaryOperator c ≡ false) name refl refl refl refl in cc
-name_set sets.CompoundOperator name e = let other : is_operator sets.CompoundOperator (class_of_identifier name) ≡ false = identifier_class (λ c. is_operator sets.CompoundOperator c ≡ false) name refl refl refl refl in cc
-name_set _ name e = cc
-
-other_set : {A : Type 0} (e : EnumId) (c : Class) → is_operator e classes.Number ≡ true → A
-other_set sets.UnaryOperator c e = cc
-other_set _ c e = cc
-
-text_set : {A : Type 0} (e : EnumId) → is_operator e classes.Text ≡ true → A
-text_set sets.UnaryOperator e = cc
-text_set _ e = cc
-
-end_set : {A : Type 0} (e : EnumId) → is_operator e classes.End ≡ true → A
-end_set sets.UnaryOperator e = cc
-end_set _ e = cc
+no_set : (e : EnumId) → list_all (λ c. not (is_operator e c)) (classes.Number ∷ classes.End ∷ name_classes) ≡ true
+no_set sets.UnaryOperator = refl
+no_set _ = refl
 
 found : (e : EnumId) (b : Bool) (o : Option ℕ) → leads b (in_set e o) ≡ true → b ≡ true → (n : ℕ) × (o ≡ Some n) × (nat_lt n (length (choice_texts e)) ≡ true)
 found e true None l is = cc
@@ -141,13 +106,13 @@ found e true (Some n) l is = (n, refl, l)
 found e false o l is = cc
 
 operators_told : (text : List ℕ) (t : Token) (k : TokenKind) (e : EnumId) → is_operator e (class_of_kind text t k) ≡ true → (n : ℕ) × (operator e k ≡ Some n) × (nat_lt n (length (choice_texts e)) ≡ true)
-operators_told text t tokens.Identifier e is = name_set e (bytes_between text t.from t.to) is
 operators_told text t (tokens.Reserved w) e is = found e (is_operator e (class_of_word w)) (choice_of_text e (word_text w)) (word_set e w) is
 operators_told text t (tokens.Punctuator m) e is = found e (is_operator e (class_of_mark m t.head)) (choice_of_text e (mark_text m)) (mark_set e m t.head) is
-operators_told text t (tokens.Number n) e is = other_set e classes.Number is
-operators_told text t tokens.Text e is = text_set e is
-operators_told text t (tokens.Template p) e is = piece_set e p is
-operators_told text t tokens.End e is = end_set e is
+operators_told text t (tokens.Number n) e is =
+    let other : is_operator e classes.Number ≡ false = not_not (is_operator e classes.Number) (and_left (not (is_operator e classes.Number)) _ (no_set e)) in cc
+operators_told text t k e is =
+    let others : list_all (λ c. not (is_operator e c)) (classes.End ∷ name_classes) ≡ true = and_right (not (is_operator e classes.Number)) _ (no_set e) in
+    let other : is_operator e (class_of_kind text t k) ≡ false = not_not (is_operator e (class_of_kind text t k)) (by_kind (λ c. not (is_operator e c)) text t k others refl) in cc
 
 leaf_is : (text : List ℕ) (t : Token) (l : Leaf) → Tells t l → is_small t.kind ≡ true → LeafIs (class_in text t) l
 leaf_is text t l tells small = record {
