@@ -242,7 +242,7 @@ flags_hold p _ b = refl
 names_scopes : (p : ℕ → Bool) → FilledScopes (names_alike p)
 names_scopes p ns k ds after es s f n h = let g : names_hold_in p after ≡ true = and_second (names_hold_in p ds) (names_hold_in p after) h
     in both (names_hold_in p (entries (shape_of k) ns after) && names_hold_in p (flags (shape_of k) after)) (names_hold_in p es)
-        (both (names_hold_in p (entries (shape_of k) ns after)) (names_hold_in p (flags (shape_of k) after)) (entries_entered (names_entered p) (shape_of k) ns after n g) (flags_hold p (shape_of k) (is_simple after))) (f n g)
+    (both (names_hold_in p (entries (shape_of k) ns after)) (names_hold_in p (flags (shape_of k) after)) (entries_entered (names_entered p) (shape_of k) ns after n g) (flags_hold p (shape_of k) (is_simple after))) (f n g)
 
 pub filled_names : (p : ℕ → Bool) (t : Tree) → names_hold p t ≡ true → names_hold p (filled t) ≡ true
 filled_names p = filled_alike (names_alike p) (names_scopes p)

@@ -4,8 +4,8 @@ use string_table::StringTable;
 
 mod plain;
 
-use tree_words::{Scopes, tree_of};
 use plain::is_plain;
+use tree_words::{Scopes, tree_of};
 
 // What `encode` answers of the tree that the words tell. Its table of strings has other texts before the tree's.
 fn encoded(alloc: Global, words: &str) -> Option<Result<Vec<u8>, EncodeFault>> {
