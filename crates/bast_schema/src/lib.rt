@@ -1,8 +1,14 @@
 //! The kinds of node with their fields, and well-typed trees of them.
 //!
 //! The kinds, their fields and the sets of texts follow the node interfaces of the Binary AST proposal, in a profile of
-//! this repository's own for the syntax of ECMA-262, 6th edition, that it reads and writes. Fields, choices and kinds are
-//! numbered from 0.
+//! this repository's own for the syntax of ECMA-262, 6th edition, that it reads and writes. Fields, choices and kinds
+//! are numbered from 0.
+//!
+//! - `Node::new` makes a node of a kind and its values, or tells the first reason why they are not those of the kind.
+//! - `fields_of`, `kind_named`, `choice_of`, `allows` ask the table of kinds; `KindTable` is the table of a file.
+//!
+//! Begin with `specs/Tree.antt`, what a tree is and when it fits; then `specs/Fields.antt`, `specs/Unions.antt` and
+//! `specs/Choices.antt`, the table itself. `specs/View.antt` says which tree a `Node` is.
 #![tactic(auto)]
 
 mod choices;

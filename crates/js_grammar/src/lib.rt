@@ -1,4 +1,14 @@
 //! The grammar of scripts as a table: which row a symbol takes at a token (ECMA-262, 6th edition, sections 12 to 15).
+//!
+//! - `row` answers which row a symbol takes at the class of a token, and whether there is one; `class_of` gives the
+//!   class.
+//! - `symbols_of` has the symbols of a row, `marked` whether it counts for nesting, `takes` which tokens a terminal
+//!   takes.
+//!
+//! Begin with `specs/Rows.antt`, the symbols of each row, and `specs/Choice.antt`, at which tokens it is taken;
+//! `docs/grammar.md` has both as they are read by people. `specs/Derivation.antt` says what the rows derive, and where
+//! semicolons count as there. The laws (`laws.rt`) say that the alternatives of a symbol begin with different tokens
+//! and that first tokens agree with the derivations.
 #![tactic(auto)]
 
 mod class;

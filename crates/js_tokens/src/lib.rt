@@ -1,4 +1,13 @@
 //! Cuts a text of JavaScript into tokens (ECMA-262, 6th edition, section 11).
+//!
+//! - `tokens` answers the tokens of a text, each with its kind, its place in bytes, and whether a line ends before it,
+//!   or the first `TokenFault` with its place.
+//! - `string_value` and `raw_text` answer what the text of a token stands for.
+//! - `is_identifier_name`, `is_reserved`, `template_spelled`, `directive_quote` answer what a text could be spelled as.
+//!
+//! Begin with `specs/Tokens.antt` and `specs/Cut.antt`, what the tokens of a text are; each form has a file of its own:
+//! `Words`, `Numbers`, `Strings`, `Escapes`, `Marks`, `Span` (white space and comments). The laws (`laws.rt`) say that
+//! a text has one cut, of longest tokens, and that the tokens are the text.
 #![tactic(auto)]
 
 mod braces;

@@ -1,5 +1,14 @@
 //! The scopes of a program: which names each of them declares, which of those a function inside captures, and where a
 //! direct eval may see them.
+//!
+//! - `annotate` takes a tree and answers it with exact scopes: the entries that each scope has to have, and its flags.
+//! - `plain` answers the tree whose scopes say nothing.
+//! - `Ctx`, `Shadow`, `find_cover`, `enter`, `leave`, and `with_bound`, `with_items` and the other `with_..` are for
+//!   the walks of the crates above, which ask what surrounds a node and what it declares.
+//!
+//! Begin with `specs/Exact.antt`, what exact scopes are; `specs/Entries.antt` has what a scope declares,
+//! `specs/Uses.antt` which scopes a use concerns, `specs/Roles.antt` which values of a node are scopes.
+//! `docs/scopes.md` has the same in words. The laws (`laws.rt`) say what exact scopes change, and what they depend on.
 #![tactic(auto)]
 
 mod bare;

@@ -1,5 +1,14 @@
-//! The reader of files: from the bytes of a range to the tree that they spell, or to their first fault, and from a whole
-//! file to its tree, or to the first thing that is wrong with it.
+//! The reader of files: from the bytes of a range to the tree that they spell, or to their first fault, and from a
+//! whole file to its tree, or to the first thing that is wrong with it.
+//!
+//! - `decode` reads a whole file: its tree with its texts, or the `ReadRefusal`.
+//! - `read_outer` reads the tree of a file whose layout is known, and judges nothing; `read_tree` reads the tree of a
+//!   kind that a range of bytes spells.
+//!
+//! Begin with `specs/WholeReading.antt`, what is answered of a file; `specs/Reading.antt` defines the tree or the first
+//! fault of a range, `specs/Row.antt` and `specs/Dues.antt` what is still to be read at a place, and `specs/Spelt.antt`
+//! which trees a range spells. The laws (`laws.rt`, `file_laws.rt`) say that one spelling is one tree, and that a file
+//! is read exactly where it is in the grammar of files.
 #![tactic(auto)]
 
 mod cursor;
