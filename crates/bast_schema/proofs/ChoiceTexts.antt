@@ -25,12 +25,7 @@ found_in e i (t ∷ ts) = is_at (choice_of_text e t) i && found_in e (suc i) ts
 
 all_found : (e : EnumId) → found_in e 0 (choice_texts e) ≡ true
 all_found DeclaredKind = refl
-all_found LexicalKind = refl
-all_found ForKind = refl
-all_found UnaryOperator = refl
-all_found UpdateOperator = refl
-all_found BinaryOperator = refl
-all_found CompoundOperator = refl
+all_found _ = refl
 
 found_at : (e : EnumId) (i : ℕ) (ts : List (List ℕ)) (n : ℕ) (t : List ℕ) → found_in e i ts ≡ true → slice_get ts n ≡ Some t → choice_of_text e t ≡ Some (i + n)
 found_at e i [] n t h is = cc

@@ -78,14 +78,7 @@ mutual
   pub nodes_within_at : (d : Datum) → nodes_at d ≤ size_at d
   nodes_within_at (child t) = nodes_within t
   nodes_within_at (listed ds) = let r : nodes_in ds ≤ size_in ds = nodes_within_in ds in omega arith
-  nodes_within_at absent = omega arith
-  nodes_within_at (flag b) = omega arith
-  nodes_within_at (index n) = omega arith
-  nodes_within_at (whole n) = omega arith
-  nodes_within_at (name n) = omega arith
-  nodes_within_at no_name = omega arith
-  nodes_within_at (choice n) = omega arith
-  nodes_within_at (window from to) = omega arith
+  nodes_within_at _ = omega arith
 
   pub nodes_within_in : (ds : Data) → nodes_in ds ≤ size_in ds
   nodes_within_in none = omega arith

@@ -65,45 +65,46 @@ front_is p (c ∷ cs) at =
       | false ↦ (refl, omega arith)
     ]
 
--- no name is found among the other tokens
-abbrev NoName : Result (Item × Place) TokenFault → Type 0
-NoName (Ok (items.Name, p)) = ⊥
-NoName (Ok (items.Gap b, p)) = Unit {0}
-NoName (Ok (items.Token k, p)) = Unit {0}
-NoName (Ok (items.Over, p)) = Unit {0}
-NoName (Err e) = Unit {0}
+-- what no first character tells as a name is a gap or a token, and never the end
+abbrev GapOrToken : Result (Item × Place) TokenFault → Type 0
+GapOrToken (Ok (items.Name, p)) = ⊥
+GapOrToken (Ok (items.Over, p)) = ⊥
+GapOrToken _ = Unit {0}
 
-record Nameless (r : Result (Item × Place) TokenFault) : Type 0 where
-  nameless : NoName r
+record Plain (r : Result (Item × Place) TokenFault) : Type 0 where
+  plain : GapOrToken r
 
-either : {r q : Result (Item × Place) TokenFault} (b : Bool) → Nameless r → Nameless q → Nameless (if b then r else q)
+either : {r q : Result (Item × Place) TokenFault} (b : Bool) → Plain r → Plain q → Plain (if b then r else q)
 either true h k = h
 either false h k = k
 
-found-nameless : {X : Type 0} (r : Result (X × Place) TokenFault) (k : X → TokenKind) → Nameless (r >>= (λ x. found (k x.0) x.1))
-found-nameless (Ok x) k = record { nameless = tt }
-found-nameless (Err e) k = record { nameless = tt }
+found_plain : {X : Type 0} (r : Result (X × Place) TokenFault) (k : X → TokenKind) → Plain (r >>= (λ x. found (k x.0) x.1))
+found_plain (Ok x) k = record { plain = tt }
+found_plain (Err e) k = record { plain = tt }
 
-comment-nameless : (o : Option (Bool × Place)) (s : ℕ) → Nameless (comment_to o s)
-comment-nameless None s = record { nameless = tt }
-comment-nameless (Some x) s = record { nameless = tt }
+comment_plain : (o : Option (Bool × Place)) (s : ℕ) → Plain (comment_to o s)
+comment_plain None s = record { plain = tt }
+comment_plain (Some x) s = record { plain = tt }
 
-mark-nameless : (o : Option (Mark × Place)) (s : ℕ) → Nameless (mark_to o s)
-mark-nameless None s = record { nameless = tt }
-mark-nameless (Some x) s = record { nameless = tt }
+mark_plain : (o : Option (Mark × Place)) (s : ℕ) → Plain (mark_to o s)
+mark_plain None s = record { plain = tt }
+mark_plain (Some x) s = record { plain = tt }
 
-token-nameless : (inside : Bool) (c : ℕ) (p : Place) (s : ℕ) → Nameless (token_at inside c p s)
-token-nameless inside c p s =
-    either (begins_number c p.chars) (found-nameless (number_at c p s) kinds.Number)
-    (either (c == 34 || c == 39) (found-nameless (closing (string_at c p s)) (λ x. kinds.Text))
-    (either (begins_piece inside c) (found-nameless (closing (template_at p s)) (λ x. kinds.Template (piece c x)))
-    (either (c == 47 && first_is 47 p.chars) (record { nameless = tt })
-    (either (c == 47 && first_is 42 p.chars) (comment-nameless (comment_from false (behind_first p.chars p.at).chars (behind_first p.chars p.at).at) s)
-    (either (c == 92) (record { nameless = tt })
-    (mark-nameless (mark_at c p) s))))))
+token_plain : (inside : Bool) (c : ℕ) (p : Place) (s : ℕ) → Plain (token_at inside c p s)
+token_plain inside c p s =
+    either (begins_number c p.chars) (found_plain (number_at c p s) kinds.Number)
+    (either (c == 34 || c == 39) (found_plain (closing (string_at c p s)) (λ x. kinds.Text))
+    (either (begins_piece inside c) (found_plain (closing (template_at p s)) (λ x. kinds.Template (piece c x)))
+    (either (c == 47 && first_is 47 p.chars) (record { plain = tt })
+    (either (c == 47 && first_is 42 p.chars) (comment_plain (comment_from false (behind_first p.chars p.at).chars (behind_first p.chars p.at).at) s)
+    (either (c == 92) (record { plain = tt })
+    (mark_plain (mark_at c p) s))))))
 
-never : (r : Result (Item × Place) TokenFault) (p : Place) → Nameless r → r ≡ Ok (items.Name, p) → ⊥
-never r p h e = (subst (λ q. Nameless q) e h).nameless
+no_name : (r : Result (Item × Place) TokenFault) (p : Place) → Plain r → r ≡ Ok (items.Name, p) → ⊥
+no_name r p h e = (subst (λ q. Plain q) e h).plain
+
+no_end : (r : Result (Item × Place) TokenFault) (p : Place) → Plain r → r ≡ Ok (items.Over, p) → ⊥
+no_end r p h e = (subst (λ q. Plain q) e h).plain
 
 abbrev place_of : Result (Item × Place) TokenFault → Place
 place_of (Ok x) = x.1
@@ -117,7 +118,7 @@ name_place : (inside : Bool) (c : ℕ) (cs : List ℕ) (at : ℕ) (p : Place) (s
 name_place inside c cs at p true newline starts e = absurd (let k : items.Gap false ≡ items.Name = ap item_of e in cc)
 name_place inside c cs at p false true starts e = absurd (let k : items.Gap true ≡ items.Name = ap item_of e in cc)
 name_place inside c cs at p false false true e = sym (ap place_of e)
-name_place inside c cs at p false false false e = absurd (never (token_at inside c (behind c cs at) at) p (token-nameless inside c (behind c cs at) at) e)
+name_place inside c cs at p false false false e = absurd (no_name (token_at inside c (behind c cs at) at) p (token_plain inside c (behind c cs at) at) e)
 
 -- the bytes of a name
 pub name_text : (text : List ℕ) (cs : List ℕ) (at : ℕ) (inside : Bool) (p : Place) → Stands text cs at → scan_at inside cs at ≡ Ok (items.Name, p) → slice_range text at p.at ≡ encode_utf8_all (name_at cs)
@@ -147,48 +148,12 @@ scan_passes [] at inside item p e = let q : p ≡ record { chars = []; at = at }
 scan_passes (c ∷ cs) at inside item p e = more (subst (λ r. Moves cs (at + len_utf8 c) r) e (scan-moves inside c cs at)).moved
 
 -- where a character is left, it is not over
-abbrev NotOver : Result (Item × Place) TokenFault → Type 0
-NotOver (Ok (items.Over, p)) = ⊥
-NotOver (Ok (items.Gap b, p)) = Unit {0}
-NotOver (Ok (items.Token k, p)) = Unit {0}
-NotOver (Ok (items.Name, p)) = Unit {0}
-NotOver (Err e) = Unit {0}
-
-record Left (r : Result (Item × Place) TokenFault) : Type 0 where
-  left : NotOver r
-
-either_left : {r q : Result (Item × Place) TokenFault} (b : Bool) → Left r → Left q → Left (if b then r else q)
-either_left true h k = h
-either_left false h k = k
-
-found-left : {X : Type 0} (r : Result (X × Place) TokenFault) (k : X → TokenKind) → Left (r >>= (λ x. found (k x.0) x.1))
-found-left (Ok x) k = record { left = tt }
-found-left (Err e) k = record { left = tt }
-
-comment-left : (o : Option (Bool × Place)) (s : ℕ) → Left (comment_to o s)
-comment-left None s = record { left = tt }
-comment-left (Some x) s = record { left = tt }
-
-mark-left : (o : Option (Mark × Place)) (s : ℕ) → Left (mark_to o s)
-mark-left None s = record { left = tt }
-mark-left (Some x) s = record { left = tt }
-
-token-left : (inside : Bool) (c : ℕ) (p : Place) (s : ℕ) → Left (token_at inside c p s)
-token-left inside c p s =
-    either_left (begins_number c p.chars) (found-left (number_at c p s) kinds.Number)
-    (either_left (c == 34 || c == 39) (found-left (closing (string_at c p s)) (λ x. kinds.Text))
-    (either_left (begins_piece inside c) (found-left (closing (template_at p s)) (λ x. kinds.Template (piece c x)))
-    (either_left (c == 47 && first_is 47 p.chars) (record { left = tt })
-    (either_left (c == 47 && first_is 42 p.chars) (comment-left (comment_from false (behind_first p.chars p.at).chars (behind_first p.chars p.at).at) s)
-    (either_left (c == 92) (record { left = tt })
-    (mark-left (mark_at c p) s))))))
-
-scan-left : (inside : Bool) (c : ℕ) (cs : List ℕ) (at : ℕ) → Left (scan_at inside (c ∷ cs) at)
-scan-left inside c cs at =
-    either_left (is_space c) (record { left = tt })
-    (either_left (is_newline c) (record { left = tt })
-    (either_left (is_start c) (record { left = tt })
-    (token-left inside c (behind c cs at) at)))
+over_nowhere : (inside : Bool) (c : ℕ) (cs : List ℕ) (at : ℕ) (p : Place) (space newline starts : Bool)
+    → (if space then Ok (items.Gap false, behind c cs at) else (if newline then Ok (items.Gap true, behind c cs at) else (if starts then Ok (items.Name, past is_part (behind c cs at)) else token_at inside c (behind c cs at) at))) ≡ Ok (items.Over, p) → ⊥
+over_nowhere inside c cs at p true newline starts e = let k : items.Gap false ≡ items.Over = ap item_of e in cc
+over_nowhere inside c cs at p false true starts e = let k : items.Gap true ≡ items.Over = ap item_of e in cc
+over_nowhere inside c cs at p false false true e = let k : items.Name ≡ items.Over = ap item_of e in cc
+over_nowhere inside c cs at p false false false e = no_end (token_at inside c (behind c cs at) at) p (token_plain inside c (behind c cs at) at) e
 
 pub over_none : (inside : Bool) (c : ℕ) (cs : List ℕ) (at : ℕ) (p : Place) → scan_at inside (c ∷ cs) at ≡ Ok (items.Over, p) → ⊥
-over_none inside c cs at p e = (subst (λ q. Left q) e (scan-left inside c cs at)).left
+over_none inside c cs at p e = over_nowhere inside c cs at p (is_space c) (is_newline c) (is_start c) e
