@@ -20,14 +20,7 @@ mutual
   names_are_at : (texts : List (Option (List ℕ))) (d : Datum) → named_at (texts_held texts) d ≡ names_hold_at (is_text texts) d
   names_are_at texts (child t) = names_are texts t
   names_are_at texts (listed ds) = names_are_in texts ds
-  names_are_at texts (name n) = refl
-  names_are_at texts absent = refl
-  names_are_at texts (flag b) = refl
-  names_are_at texts (index n) = refl
-  names_are_at texts (whole n) = refl
-  names_are_at texts no_name = refl
-  names_are_at texts (choice n) = refl
-  names_are_at texts (window from to) = refl
+  names_are_at texts _ = refl
 
   names_are_in : (texts : List (Option (List ℕ))) (ds : Data) → all_named (texts_held texts) ds ≡ names_hold_in (is_text texts) ds
   names_are_in texts none = refl

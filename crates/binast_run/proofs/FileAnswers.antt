@@ -36,10 +36,8 @@ one_file_answer bytes text a b p q = p.2 ∙ ap (answer_of text) (one_whole byte
 -- an answer of status 0 is that of a tree
 with_tree : (bytes : List ℕ) (text : List (Option (List ℕ)) → Tree → List ℕ) (w : Whole) → length bytes ≤ most_bytes → All (λ byte. byte < 256) bytes → IsWhole bytes w → (answer_of text w).status ≡ 0
     → (texts : List (Option (List ℕ))) × (t : Tree) × IsSoundFile bytes texts t × (answer_of text w ≡ output (text texts t))
-with_tree bytes text (faulty f) short small is zero = absurd (omega (arith, zero))
-with_tree bytes text (not_yet n) short small is zero = absurd (omega (arith, zero))
-with_tree bytes text (violated texts v) short small is zero = absurd (omega (arith, zero))
 with_tree bytes text (whole texts t) short small is zero = (texts, t, whole_is_sound bytes texts t short small is, refl)
+with_tree bytes text _ short small is zero = absurd (omega (arith, zero))
 
 pub answered_exactly : (bytes : List ℕ) (text : List (Option (List ℕ)) → Tree → List ℕ) (a : Answer) → length bytes ≤ most_bytes → All (λ byte. byte < 256) bytes → AnswersFile bytes text a → IsOutputExactly bytes text a
 answered_exactly bytes text a short small answer = record {

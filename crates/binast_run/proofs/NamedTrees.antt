@@ -21,13 +21,7 @@ mutual
   named_datum r (child t) is = named_tree r t is
   named_datum r (listed ds) is = named_data r ds is
   named_datum r (name n) is = text_there r.tables.texts n is
-  named_datum r absent is = refl
-  named_datum r (flag b) is = refl
-  named_datum r (index n) is = refl
-  named_datum r (whole n) is = refl
-  named_datum r no_name is = refl
-  named_datum r (choice n) is = refl
-  named_datum r (window from to) is = refl
+  named_datum r _ is = refl
 
   named_data : (r : Range) (ds : Data) → all_stand r ds ≡ true → is_named_in r.tables.texts ds ≡ true
   named_data r none is = refl

@@ -26,11 +26,7 @@ stands_there entries bytes (Some n) stands = (n, refl)
 text_there : (text : List ℕ) (entries : List (Option (List ℕ))) (t : Token) (k : TokenKind) (o : Option NameId) → has_text k ≡ true → Stands entries (text_by text t k) o → (n : NameId) × (o ≡ Some n)
 text_there text entries t (kinds.Punctuator m) o e stands = cc
 text_there text entries t kinds.End o e stands = cc
-text_there text entries t kinds.Identifier o e stands = stands_there entries _ o stands
-text_there text entries t (kinds.Reserved w) o e stands = stands_there entries _ o stands
-text_there text entries t (kinds.Number n) o e stands = stands_there entries _ o stands
-text_there text entries t kinds.Text o e stands = stands_there entries _ o stands
-text_there text entries t (kinds.Template p) o e stands = stands_there entries _ o stands
+text_there text entries t _ o e stands = stands_there entries _ o stands
 
 pub leaves_tell : (text : List ℕ) (entries : List (Option (List ℕ))) (ts : List Token) (ls : List Leaf) → AreLeaves text entries ts ls → LeavesTell ts ls
 leaves_tell text entries [] [] are = tt

@@ -22,22 +22,16 @@ use Rattle.string_table.specs.Entries.{place_in}
 
 -- the texts of a token of a text
 text_is : (text : List ℕ) (t : Token) (k : TokenKind) → IsUtf8 text → IsTokenOf text t → is_small k ≡ true → IsText (text_by text t k)
-text_is text t kinds.Identifier utf8 is small = IsUtf8-between text t.from t.to utf8 is.within.ordered is.within.start is.within.stop
-text_is text t (kinds.Reserved w) utf8 is small = IsUtf8-between text t.from t.to utf8 is.within.ordered is.within.start is.within.stop
 text_is text t (kinds.Punctuator m) utf8 is small = tt
 text_is text t (kinds.Number n) utf8 is small = IsUtf8-from_ascii (decimal n) (IsAscii-decimal n (omega (arith, ltb-true n (2 ^ 53) small)))
 text_is text t kinds.Text utf8 is small = value_is_text text t.from (IsUtf8-drop text t.from utf8 is.within.start)
 text_is text t (kinds.Template p) utf8 is small = raw_is_text text t (IsUtf8-drop text t.from utf8 is.within.start)
 text_is text t kinds.End utf8 is small = tt
+text_is text t _ utf8 is small = IsUtf8-between text t.from t.to utf8 is.within.ordered is.within.start is.within.stop
 
 raw_is : (text : List ℕ) (t : Token) (k : TokenKind) → IsUtf8 text → IsTokenOf text t → IsText (raw_by text t k)
 raw_is text t kinds.Text utf8 is = raw_is_text text t (IsUtf8-drop text t.from utf8 is.within.start)
-raw_is text t kinds.Identifier utf8 is = tt
-raw_is text t (kinds.Reserved w) utf8 is = tt
-raw_is text t (kinds.Punctuator m) utf8 is = tt
-raw_is text t (kinds.Number n) utf8 is = tt
-raw_is text t (kinds.Template p) utf8 is = tt
-raw_is text t kinds.End utf8 is = tt
+raw_is text t _ utf8 is = tt
 
 -- so the entries of a table that has grown by them are texts
 with_last : (entries : List (Option (List ℕ))) (entry : Option (List ℕ)) → AllByRecursion IsText entries → IsText entry → AllByRecursion IsText (entries ++ entry ∷ [])

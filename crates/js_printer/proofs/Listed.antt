@@ -62,15 +62,7 @@ mutual
 
   pub item_same : (s : List (Option (List ℕ))) (d e : ℕ) (v : Datum) → min d 16 ≡ min e 16 → shown_all (item_lines s d v) ≡ shown_all (item_lines s e v)
   item_same s d e (child c) h = node_same s d e [] c h
-  item_same s d e absent h = line_same d e (codes "none") [] h
-  item_same s d e (list_of ds) h = line_same d e (codes "none") [] h
-  item_same s d e (flag b) h = line_same d e (codes "none") [] h
-  item_same s d e (index i) h = line_same d e (codes "none") [] h
-  item_same s d e (whole i) h = line_same d e (codes "none") [] h
-  item_same s d e (name i) h = line_same d e (codes "none") [] h
-  item_same s d e no_name h = line_same d e (codes "none") [] h
-  item_same s d e (choice i) h = line_same d e (codes "none") [] h
-  item_same s d e (window from to) h = line_same d e (codes "none") [] h
+  item_same s d e _ h = line_same d e (codes "none") [] h
 
 -- a depth that stands still at the end of its type is indented as the depth one deeper
 pub saturated : (d m : ℕ) → 16 ≤ m → min (min (d + 1) m) 16 ≡ min (d + 1) 16

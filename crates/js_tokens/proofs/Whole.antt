@@ -96,9 +96,7 @@ item_of (Err e) = items.Over
 
 abbrev pub is_over : Item → Bool
 is_over items.Over = true
-is_over (items.Gap b) = false
-is_over items.Name = false
-is_over (items.Token k) = false
+is_over _ = false
 
 pub scan-some : (inside : Bool) (cs : List ℕ) (at : ℕ) (item : Item) (p : Place) → scan_at inside cs at ≡ Ok (item, p) → is_over item ≡ false → (at < p.at) × (length p.chars < length cs)
 scan-some inside [] at item p e h = absurd (let k : true ≡ is_over item = ap (λ r. is_over (item_of r)) e in cc)
@@ -177,9 +175,8 @@ heads-each text (t ∷ ts) h =
     (heads-each text ts (λ k d l. h (suc k) d (omega (arith, l))))
 
 pub heads-ended : (ts : List Token) → AreEnded ts → AreEnded (with_heads ts)
-heads-ended [] h = h
-heads-ended (t ∷ []) h = h
 heads-ended (t ∷ u ∷ us) h = (h.0, heads-ended (u ∷ us) h.1)
+heads-ended _ h = h
 
 heads-length : (ts : List Token) → length (with_heads ts) ≡ length ts
 heads-length [] = refl

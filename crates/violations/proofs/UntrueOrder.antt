@@ -40,21 +40,13 @@ of_finding n r (Wrong x) is = one_there n r x is
 
 by_entries : (s : Shape) → place_of A1 ≤ place_of (entries_rule s)
 by_entries shape.Parameters = lit≤ tt
-by_entries shape.BoundName = lit≤ tt
 by_entries _ = lit≤ tt
 
 of_scope : (n : ℕ) (names : List ℕ) (d : Datum) (after : Data) → Along IsUntrue n (n + nodes_at d) (untrue_scope n names d after)
 of_scope n names (child (branch k ds)) after =
     widened IsUntrue n (n + 1) n (n + nodes (branch k ds)) (untrue_scope n names (child (branch k ds)) after) (omega arith) (omega arith) (of_finding n (entries_rule (shape_of k)) (scope_says names (branch k ds) after) (by_entries (shape_of k)))
 of_scope n names (listed es) after = nowhere IsUntrue n (n + nodes_in es)
-of_scope n names absent after = nowhere IsUntrue n (n + 0)
-of_scope n names (flag b) after = nowhere IsUntrue n (n + 0)
-of_scope n names (index i) after = nowhere IsUntrue n (n + 0)
-of_scope n names (whole i) after = nowhere IsUntrue n (n + 0)
-of_scope n names (name i) after = nowhere IsUntrue n (n + 0)
-of_scope n names no_name after = nowhere IsUntrue n (n + 0)
-of_scope n names (choice i) after = nowhere IsUntrue n (n + 0)
-of_scope n names (window i j) after = nowhere IsUntrue n (n + 0)
+of_scope n names _ after = nowhere IsUntrue n (n + 0)
 
 -- what is found in one value, and then in those after it
 behind : (n : ℕ) (d : Datum) (ds : Data) (xs ys : List Violation) → Along IsUntrue n (n + nodes_at d) xs → Along IsUntrue (n + nodes_at d) (n + nodes_at d + nodes_in ds) ys → Along IsUntrue n (n + (nodes_at d + nodes_in ds)) (xs ++ ys)
@@ -77,14 +69,7 @@ mutual
   along_at : (e : Option ℕ) (fs : List Frame) (told : Bool) (n : ℕ) (d : Datum) → Along IsUntrue n (n + nodes_at d) (untrue_at e fs told n d)
   along_at e fs told n (child t) = along_from e fs told n t
   along_at e fs told n (listed ds) = along_among e fs told n ds
-  along_at e fs told n absent = nowhere IsUntrue n (n + 0)
-  along_at e fs told n (flag b) = nowhere IsUntrue n (n + 0)
-  along_at e fs told n (index i) = nowhere IsUntrue n (n + 0)
-  along_at e fs told n (whole i) = nowhere IsUntrue n (n + 0)
-  along_at e fs told n (name i) = nowhere IsUntrue n (n + 0)
-  along_at e fs told n no_name = nowhere IsUntrue n (n + 0)
-  along_at e fs told n (choice i) = nowhere IsUntrue n (n + 0)
-  along_at e fs told n (window i j) = nowhere IsUntrue n (n + 0)
+  along_at e fs told n _ = nowhere IsUntrue n (n + 0)
 
   along_in : (e : Option ℕ) (fs : List Frame) (told : Bool) (names : List ℕ) (n : ℕ) (ds : Data) → Along IsUntrue n (n + nodes_in ds) (untrue_in e fs told names n ds)
   along_in e fs told names n none = nowhere IsUntrue n (n + 0)
