@@ -11,8 +11,6 @@
 #![tactic(auto)]
 
 mod command;
-#[cfg(test)]
-mod file_cases;
 mod files;
 mod gate;
 mod in_memory;
@@ -21,13 +19,9 @@ mod lines;
 mod outcome;
 mod output;
 mod program;
-#[cfg(test)]
-mod source_cases;
 mod source_lines;
 mod sources;
 mod status;
-#[cfg(test)]
-mod tests;
 
 pub use gate::{Gate, Idle};
 pub use in_memory::run_in_memory;

@@ -1,4 +1,4 @@
-use super::*;
+use scope_facts::Ctx;
 use std::test::Fail;
 
 mod budget;

@@ -1,5 +1,5 @@
 use Rattle.std.proofs.Common.{◌+◌, ◌*◌}
-use Rattle.scope_facts.proofs.tests.shown.+show.Given as goal
+use Rattle.scope_facts_tests.proofs.tests.shown.+show.Given as goal
 
 abbrev pub decreases-put_scopes : goal.decreases-put_scopes
 decreases-put_scopes l = 2 * l.levels + 1

@@ -1,6 +1,6 @@
 use Rattle.bast_schema.specs.Tree.{weight, weight_in, weight_at}
 use Rattle.bast_schema.specs.View.{data_of, datum}
-use Rattle.scope_facts.proofs.tests.budget.+budget.Given as goal
+use Rattle.scope_facts_tests.proofs.tests.budget.+budget.Given as goal
 
 abbrev pub decreases-left_after : goal.decreases-left_after
 decreases-left_after l = weight l.node.now

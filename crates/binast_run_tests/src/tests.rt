@@ -1,4 +1,4 @@
-use super::*;
+use binast_run::{Idle, run, run_in_memory};
 use crate::{file_cases, source_cases};
 use bast_base::{Chars, MemSink, MemSource, Steps, SureSink, SureSource};
 use std::alloc::{AllocError, Global};

@@ -1,5 +1,5 @@
 // The table of covers, while scopes are entered and left.
-use crate::{Cover, Shadow, find_cover, leave, put_cover};
+use scope_facts::{Cover, Shadow, find_cover, leave, put_cover};
 use std::test::Fail;
 
 /// The cover by a scope inside so many functions.

@@ -1,6 +1,6 @@
 // The scopes of a tree as text: in preorder, each with its entries and flags.
-use crate::{Shape, scope_shape};
 use bast_schema::{DECLARED_LEXICAL, DECLARED_VAR, Kind, Node, Value};
+use scope_facts::{Shape, scope_shape};
 use string_table::StringTable;
 
 fn text_of<'a>(table: &'a StringTable, value: &Value) -> &'a str {

@@ -1,8 +1,8 @@
 // Whether a tree that is told by words gets the scopes that it has to have.
 use super::budget::left_after;
 use super::shown::put_scopes;
-use crate::{annotate, plain};
 use bast_schema::{Kind, Value};
+use scope_facts::{annotate, plain};
 use std::alloc::Global;
 use string_table::StringTable;
 use tree_words::{Scopes, tree_of};
