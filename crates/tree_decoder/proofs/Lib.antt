@@ -1,6 +1,5 @@
 pub mod Accepts
 pub mod Decoding
-pub mod Dues
 pub mod EagerWhole
 pub mod EveryFile
 pub mod InGrammar
@@ -22,6 +21,7 @@ pub mod SameTree
 pub mod Scripts
 pub mod Single
 pub mod Sound
+pub mod Spelling
 pub mod Spells
 pub mod Spending
 pub mod Values

@@ -1,8 +1,6 @@
 -- Each atom goes forward within the range.
-use Rattle.std.proofs.Common.{ℕ, ◌+◌, ◌-◌, ◌<◌, ◌≤◌, ◌≡◌, Bool, true, false, not, ◌&&◌, ◌||◌, cond, ltb, eqb, List, [], Option, Some, None, Ok, Err, refl, ap, subst, arith, slice_get, slice_index, slice_range}
-use Rattle.std.proofs.lemmas.Bool.{ltb-false, ltb-true}
-use Rattle.std.specs.Int.{from_be_bytes, w64}
-use Rattle.bast_base.specs.declared.errors.Why.TheVariants.{Ended, BadKind, BadBool, EmptyList, TooDeep}
+use Rattle.std.proofs.Common.{ℕ, ◌-◌, ◌<◌, ◌≤◌, ◌≡◌, Bool, true, false, not, ◌&&◌, ◌||◌, cond, ltb, eqb, List, [], Option, Some, None, Ok, Err, refl, ap, subst, arith, slice_get}
+use Rattle.bast_base.specs.declared.errors.Why.TheVariants.{BadKind, EmptyList, TooDeep}
 use Rattle.bast_schema.specs.declared.kind.FieldType.{FieldType}
 use Rattle.bast_schema.specs.declared.kind.FieldType.TheVariants as field
 use Rattle.bast_schema.specs.declared.kind.Kind.{Kind}
@@ -10,16 +8,15 @@ use Rattle.bast_schema.specs.declared.kind.Kind.TheVariants.{Null}
 use Rattle.bast_schema.specs.declared.kind.Union.{Union}
 use Rattle.bast_schema.specs.Fields.{has_lazy}
 use Rattle.bast_schema.specs.Kinds.{counted, same_kind}
-use Rattle.bast_schema.specs.Tree.{Datum, flag, whole, item_type}
+use Rattle.bast_schema.specs.Tree.{Datum, item_type}
 use Rattle.bast_schema.specs.Unions.{allowed}
 use Rattle.tree_decoder.specs.Dues.{Taken, taken, dues, times, children, atom_of}
-use Rattle.tree_decoder.specs.Found.{Spent}
-use Rattle.container.specs.Answers.{fault, ◌>>=◌}
-use Rattle.tree_decoder.specs.Numbers.{number_from, judged, kind_of_number, kind_at, count_at, whole_with, whole_or, whole_at, flag_of, flag_at, numbered, leaf_at, is_leaf}
+use Rattle.container.specs.Answers.{fault}
+use Rattle.tree_decoder.specs.Numbers.{number_from, judged, kind_of_number, kind_at, count_at, leaf_at, is_leaf}
 use Rattle.tree_decoder.specs.Range.{Range, IsSound}
 use Rattle.tree_decoder.specs.Windows.{windows_at, skipped}
-use Rattle.tree_decoder.proofs.Spells.{bind_ok, guard_ok, chosen_ok, is_ok, ok_is, number_spells}
-use Rattle.tree_decoder.proofs.Spending.{numbered_passes}
+use Rattle.tree_decoder.proofs.Spells.{bind_ok, guard_ok, is_ok, ok_is, number_spells}
+use Rattle.tree_decoder.proofs.Single.{leaf_stands}
 
 pub record Moves (r : Range) (at next : ℕ) (ws : List (ℕ × ℕ)) : Type 0 where
   pub forward : at < next
@@ -31,50 +28,10 @@ number_moves r at x sound order e =
     let s = number_spells r at x sound order e in
     record { forward = s.ahead; within = s.within; skips = omega arith }
 
-same_next : (r : Range) (at : ℕ) (v : Datum) (next : ℕ) (x : Datum × ℕ) → at < next → next ≤ r.end → windows_at v ≡ [] → (v, next) ≡ x → Moves r at x.1 (windows_at x.0)
-same_next r at v next x ahead within none e =
-    let some : skipped (windows_at v) ≤ next - at = rw none (omega arith) in
-    subst (λ (y : Datum × ℕ). Moves r at y.1 (windows_at y.0)) e (record { forward = ahead; within = within; skips = some })
-
-flag_moves_of : (r : Range) (at : ℕ) (a b : Bool) (x : Datum × ℕ) → at < r.end → cond a (is_ok (flag false, at + 1)) (cond b (is_ok (flag true, at + 1)) (Err (fault at BadBool))) ≡ Ok x → Moves r at x.1 (windows_at x.0)
-flag_moves_of r at true b x h e = same_next r at (flag false) (at + 1) x (omega arith) (omega arith) refl (ok_is _ _ e)
-flag_moves_of r at false b x h e = same_next r at (flag true) (at + 1) x (omega arith) (omega arith) refl (chosen_ok b (flag true, at + 1) (fault at BadBool) x e).1
-
-pub inside_end : (r : Range) (at : ℕ) (b : Bool) (x : Datum × ℕ) → cond b (flag_of at (slice_index r.tape at)) (Err (fault r.end Ended)) ≡ Ok x → (b ≡ true) × (flag_of at (slice_index r.tape at) ≡ Ok x)
-inside_end r at true x e = (refl, e)
-inside_end r at false x e = absurd cc
-
-flag_moves : (r : Range) (at : ℕ) (x : Datum × ℕ) → flag_at r at ≡ Ok x → Moves r at x.1 (windows_at x.0)
-unfolding flag_at
-flag_moves r at x e =
-    let g = inside_end r at (ltb at r.end) x e in
-    flag_moves_of r at (eqb (slice_index r.tape at) 0) (eqb (slice_index r.tape at) 1) x (ltb-true _ _ g.0) g.1
-
-whole_moves_of : (r : Range) (at : ℕ) (o : Option ℕ) (x : Datum × ℕ) → at + 8 ≤ r.end → whole_or at o ≡ Ok x → Moves r at x.1 (windows_at x.0)
-whole_moves_of r at (Some n) x far e = same_next r at (whole n) (at + 8) x (omega arith) far refl (ok_is _ _ e)
-whole_moves_of r at None x far e = absurd cc
-
-whole_moves : (r : Range) (at : ℕ) (x : Datum × ℕ) → whole_at r at ≡ Ok x → Moves r at x.1 (windows_at x.0)
-unfolding whole_at
-whole_moves r at x e =
-    let bits = from_be_bytes w64 (slice_range r.tape at (at + 8)) in
-    let g = guard_ok (ltb r.end (at + 8)) (fault r.end Ended) (whole_or at (whole_with bits)) x e in
-    whole_moves_of r at (whole_with bits) x (ltb-false _ _ g.0) g.1
-
-by_number : (r : Range) (t : FieldType) (at : ℕ) (x : Datum × ℕ) → IsSound r → at ≤ r.end → (number_from r at >>= λ n. numbered r t at n.0 n.1) ≡ Ok x → Moves r at x.1 (windows_at x.0)
-by_number r t at x sound order e =
-    let b = bind_ok (number_from r at) (λ n. numbered r t at n.0 n.1) x e in
-    let m = number_moves r at b.0 sound order b.1 in
-    let p = numbered_passes r t at b.0.0 b.0.1 x b.2 in
-    let ahead : at < b.0.1 = m.forward in
-    let on : b.0.1 ≤ x.1 = p.forward in
-    let spent : Spent (windows_at x.0) at x.1 0 0 = p.spent at 0 0 (omega arith) (omega arith) in
-    record { forward = omega arith; within = p.within m.within; skips = omega arith }
-
-pub leaf_moves : (r : Range) (t : FieldType) (at : ℕ) (x : Datum × ℕ) → IsSound r → at ≤ r.end → leaf_at r t at ≡ Ok x → Moves r at x.1 (windows_at x.0)
-leaf_moves r field.Bool at x sound order e = flag_moves r at x e
-leaf_moves r field.Whole at x sound order e = whole_moves r at x e
-leaf_moves r t at x sound order e = by_number r t at x sound order e
+leaf_moves : (r : Range) (t : FieldType) (at : ℕ) (x : Datum × ℕ) → IsSound r → at ≤ r.end → is_leaf t ≡ true → leaf_at r t at ≡ Ok x → Moves r at x.1 (windows_at x.0)
+leaf_moves r t at x sound order leaf e =
+    let st = (leaf_stands r t at x sound order leaf e).1 in
+    record { forward = omega (arith, st.ahead, st.skips); within = st.within; skips = omega (arith, st.ahead, st.skips) }
 
 pub judged_keeps : (u : Union) (depth : ℕ) (inside : Bool) (at next : ℕ) (k : Kind) (x : Option Kind × ℕ) → judged u depth inside at next k ≡ Ok x → (Some k, next) ≡ x
 judged_keeps u depth inside at next k x e =
@@ -122,4 +79,4 @@ pub atom_moves : (r : Range) (t : FieldType) (d : ℕ) (w : Bool) (at : ℕ) (y 
 atom_moves r t d w at y sound order e =
     atom_cases r d w at (λ u z. Moves r at z.next z.windows)
     (λ u optional k m is. kind_moves r u optional d w at (k, m) sound order is) (λ u holes filled n m is. count_moves r filled at (n, m) sound order is)
-    (λ u v m leaf is. leaf_moves r u at (v, m) sound order is) t y e
+    (λ u v m leaf is. leaf_moves r u at (v, m) sound order leaf is) t y e

@@ -35,12 +35,13 @@ use Rattle.tree_decoder.specs.Dues.{Due, due, dues, times, below, children, take
 use Rattle.tree_decoder.specs.Found.{Found, Run, Fails, Spent, SpentFails}
 use Rattle.container.specs.Folded.{is_folded, folded_at, folded_fields, folded_items}
 use Rattle.container.specs.Answers.{fault, ◌>>=◌}
-use Rattle.tree_decoder.specs.Numbers.{number_from, judged, kind_of_number, kind_at, count_at}
-use Rattle.tree_decoder.specs.Outcome.{Outcome, ends, outcome_from}
+use Rattle.tree_decoder.specs.Numbers.{number_from, judged, kind_of_number, kind_at, count_at, leaf_at, is_leaf}
+use Rattle.tree_decoder.specs.Outcome.{Outcome, outcome_from}
 use Rattle.tree_decoder.specs.Range.{Range, IsSound, held, left}
+use Rattle.tree_decoder.specs.Windows.{windows_at}
 use Rattle.tree_decoder.proofs.Machine.{from_step, from_fails}
-use Rattle.tree_decoder.proofs.Moves.{kind_moves, count_moves}
-use Rattle.tree_decoder.proofs.Single.{any_at}
+use Rattle.tree_decoder.proofs.Moves.{atom_moves, kind_moves, count_moves}
+use Rattle.tree_decoder.proofs.Single.{any_at, leaf_atom, leaf_stands}
 use Rattle.tree_decoder.proofs.Spells.{bind_ok, guard_ok, is_ok, ok_is, number_spells}
 
 -- ---- kinds
@@ -198,29 +199,23 @@ node_made r u optional d w at k m ds next sound order one small e run =
     let deep : depth (branch k ds) + d ≤ 513 = f.depth in
     made_where_fit k ds run.fits (omega arith)
 
-kind_stops : (r : Range) (u : Union) (optional : Bool) (d : ℕ) (w : Bool) (at : ℕ) (f : FormatFault) (ds : List Due) → at ≤ r.end → kind_at r u optional d w at ≡ Err f → outcome_from r (due (item_type u optional) d w ∷ ds) at ≡ ends (Some f)
-kind_stops r u optional d w at f ds order e = from_fails r (due (item_type u optional) d w) ds at f order (kind_atom r u optional d w at (Err f) e)
+-- ---- where an atom fails, and where something behind it does
 
-pub kind_fails : (r : Range) (u : Union) (optional : Bool) (d : ℕ) (w : Bool) (at : ℕ) (f : FormatFault) → at ≤ r.end → kind_at r u optional d w at ≡ Err f → Fails r (due (item_type u optional) d w ∷ []) at (Format f)
-kind_fails r u optional d w at f order e = λ ds. ap (λ (o : Outcome). o.fault) (kind_stops r u optional d w at f ds order e)
+pub atom_fails : (r : Range) (t : FieldType) (d : ℕ) (w : Bool) (at : ℕ) (f : FormatFault) → at ≤ r.end → atom_of r t d w at ≡ Err f → Fails r (due t d w ∷ []) at (Format f)
+atom_fails r t d w at f order e = λ ds. ap (λ (o : Outcome). o.fault) (from_fails r (due t d w) ds at f order e)
 
-pub kind_spends : (r : Range) (u : Union) (optional : Bool) (d : ℕ) (w : Bool) (at : ℕ) (f : FormatFault) (old new : ℕ) → at ≤ r.end → kind_at r u optional d w at ≡ Err f → new ≤ old + (r.end - at) → SpentFails r (due (item_type u optional) d w ∷ []) at old new
-kind_spends r u optional d w at f old new order e s = λ ds. subst (λ (o : Outcome). Spent o.windows at r.end old new) (sym (kind_stops r u optional d w at f ds order e)) (let none : Spent [] at r.end old new = omega arith in none)
+pub atom_spends : (r : Range) (t : FieldType) (d : ℕ) (w : Bool) (at : ℕ) (f : FormatFault) (old new : ℕ) → at ≤ r.end → atom_of r t d w at ≡ Err f → new ≤ old + (r.end - at) → SpentFails r (due t d w ∷ []) at old new
+atom_spends r t d w at f old new order e s = λ ds. subst (λ (o : Outcome). Spent o.windows at r.end old new) (sym (from_fails r (due t d w) ds at f order e)) (let none : Spent [] at r.end old new = omega arith in none)
 
-pub fields_fail : (r : Range) (u : Union) (optional : Bool) (d : ℕ) (w : Bool) (at : ℕ) (k : Kind) (m : ℕ) (e : Halt) → IsSound r → at ≤ r.end → kind_at r u optional d w at ≡ Ok (Some k, m) → Fails r (dues (fields k) (below k d) w) m e → Fails r (due (item_type u optional) d w ∷ []) at e
-fields_fail r u optional d w at k m Memory sound order e f = tt
-fields_fail r u optional d w at k m (Format x) sound order e f = λ ds. ap (λ (o : Outcome). o.fault) (node_goes r u optional d w at (Some k) m ds sound order e) ∙ f ds
+pub rest_fails : (r : Range) (t : FieldType) (d : ℕ) (w : Bool) (at : ℕ) (xs : List Due) (m : ℕ) (e : Halt) → IsSound r → at ≤ r.end → atom_of r t d w at ≡ Ok (taken xs [] m) → Fails r xs m e → Fails r (due t d w ∷ []) at e
+rest_fails r t d w at xs m Memory sound order e f = tt
+rest_fails r t d w at xs m (Format x) sound order e f = λ ds. ap (λ (o : Outcome). o.fault) (from_step r (due t d w) ds at (taken xs [] m) sound order e) ∙ f ds
 
--- steps to a next place, and on from there to the end
-spent_on : (ws : List (ℕ × ℕ)) (at m end old mid new : ℕ) → at ≤ m → m ≤ end → mid ≤ old + (m - at) → Spent ws m end mid new → Spent ws at end old new
-spent_on ws at m end old mid new h k s t = omega arith
-
-pub fields_spend : (r : Range) (u : Union) (optional : Bool) (d : ℕ) (w : Bool) (at : ℕ) (k : Kind) (m : ℕ) (old mid new : ℕ) → IsSound r → at ≤ r.end → kind_at r u optional d w at ≡ Ok (Some k, m) → mid ≤ old + (m - at) → SpentFails r (dues (fields k) (below k d) w) m mid new → SpentFails r (due (item_type u optional) d w ∷ []) at old new
-fields_spend r u optional d w at k m old mid new sound order e s f = λ ds.
-    let mv = kind_moves r u optional d w at (Some k, m) sound order e in
-    let p = mv.forward in
-    subst (λ (o : Outcome). Spent o.windows at r.end old new) (sym (node_goes r u optional d w at (Some k) m ds sound order e))
-    (spent_on (outcome_from r (dues (fields k) (below k d) w ++ ds) m).windows at m r.end old mid new (omega arith) mv.within s (f ds))
+pub rest_spends : (r : Range) (t : FieldType) (d : ℕ) (w : Bool) (at : ℕ) (xs : List Due) (m : ℕ) (old mid new : ℕ) → IsSound r → at ≤ r.end → atom_of r t d w at ≡ Ok (taken xs [] m) → mid ≤ old + (m - at) → SpentFails r xs m mid new → SpentFails r (due t d w ∷ []) at old new
+rest_spends r t d w at xs m old mid new sound order e s f = λ ds.
+    let mv = atom_moves r t d w at (taken xs [] m) sound order e in
+    let spent : Spent (outcome_from r (xs ++ ds) m).windows at r.end old new = omega (arith, mv.forward, mv.within, f ds) in
+    subst (λ (o : Outcome). Spent o.windows at r.end old new) (sym (from_step r (due t d w) ds at (taken xs [] m) sound order e)) spent
 
 pub spent_node : (ws : List (ℕ × ℕ)) (at m next old mid new : ℕ) → at ≤ m → m ≤ next → mid ≤ old + (m - at) → Spent ws m next mid new → Spent ws at next old new
 spent_node ws at m next old mid new h k s t = omega arith
@@ -232,26 +227,6 @@ count_atom r u holes filled d w at q e = ap (λ p. p >>= λ x. is_ok (taken (due
 
 pub list_goes : (r : Range) (u : Union) (holes filled : Bool) (d : ℕ) (w : Bool) (at n m : ℕ) (ds : List Due) → IsSound r → at ≤ r.end → count_at r filled at ≡ Ok (n, m) → outcome_from r (due (field.List u holes filled) d w ∷ ds) at ≡ outcome_from r (dues (times n (item_type u holes)) d w ++ ds) m
 list_goes r u holes filled d w at n m ds sound order e = from_step r (due (field.List u holes filled) d w) ds at (taken (dues (times n (item_type u holes)) d w) [] m) sound order (count_atom r u holes filled d w at (Ok (n, m)) e)
-
-count_stops : (r : Range) (u : Union) (holes filled : Bool) (d : ℕ) (w : Bool) (at : ℕ) (f : FormatFault) (ds : List Due) → at ≤ r.end → count_at r filled at ≡ Err f → outcome_from r (due (field.List u holes filled) d w ∷ ds) at ≡ ends (Some f)
-count_stops r u holes filled d w at f ds order e = from_fails r (due (field.List u holes filled) d w) ds at f order (count_atom r u holes filled d w at (Err f) e)
-
-pub count_fails : (r : Range) (u : Union) (holes filled : Bool) (d : ℕ) (w : Bool) (at : ℕ) (f : FormatFault) → at ≤ r.end → count_at r filled at ≡ Err f → Fails r (due (field.List u holes filled) d w ∷ []) at (Format f)
-count_fails r u holes filled d w at f order e = λ ds. ap (λ (o : Outcome). o.fault) (count_stops r u holes filled d w at f ds order e)
-
-pub count_spends : (r : Range) (u : Union) (holes filled : Bool) (d : ℕ) (w : Bool) (at : ℕ) (f : FormatFault) (old new : ℕ) → at ≤ r.end → count_at r filled at ≡ Err f → new ≤ old + (r.end - at) → SpentFails r (due (field.List u holes filled) d w ∷ []) at old new
-count_spends r u holes filled d w at f old new order e s = λ ds. subst (λ (o : Outcome). Spent o.windows at r.end old new) (sym (count_stops r u holes filled d w at f ds order e)) (let none : Spent [] at r.end old new = omega arith in none)
-
-pub items_fail : (r : Range) (u : Union) (holes filled : Bool) (d : ℕ) (w : Bool) (at n m : ℕ) (e : Halt) → IsSound r → at ≤ r.end → count_at r filled at ≡ Ok (n, m) → Fails r (dues (times n (item_type u holes)) d w) m e → Fails r (due (field.List u holes filled) d w ∷ []) at e
-items_fail r u holes filled d w at n m Memory sound order e f = tt
-items_fail r u holes filled d w at n m (Format x) sound order e f = λ ds. ap (λ (o : Outcome). o.fault) (list_goes r u holes filled d w at n m ds sound order e) ∙ f ds
-
-pub items_spend : (r : Range) (u : Union) (holes filled : Bool) (d : ℕ) (w : Bool) (at n m : ℕ) (old mid new : ℕ) → IsSound r → at ≤ r.end → count_at r filled at ≡ Ok (n, m) → mid ≤ old + (m - at) → SpentFails r (dues (times n (item_type u holes)) d w) m mid new → SpentFails r (due (field.List u holes filled) d w ∷ []) at old new
-items_spend r u holes filled d w at n m old mid new sound order e s f = λ ds.
-    let mv = count_moves r filled at (n, m) sound order e in
-    let p = mv.forward in
-    subst (λ (o : Outcome). Spent o.windows at r.end old new) (sym (list_goes r u holes filled d w at n m ds sound order e))
-    (spent_on (outcome_from r (dues (times n (item_type u holes)) d w ++ ds) m).windows at m r.end old mid new (omega arith) mv.within s (f ds))
 
 -- items are spelled as nodes that may be absent
 pub item_spelled : (s : Tables) (h : Held) (u : Union) (holes : Bool) (d : Datum) → fits (item_type u holes) d ≡ true → spelled_at s h (item_type u holes) d ≡ spelled_at s h (field.Optional Body) d
@@ -346,6 +321,23 @@ list_found r u holes filled d w at n m ds next sound order e run =
       folded = times_folded n (item_type u holes) ds run.fits run.folded;
       forward = omega arith;
       within = run.within;
+    }
+
+-- ---- values with no parts
+
+pub leaf_found : (r : Range) (t : FieldType) (d : ℕ) (w : Bool) (at : ℕ) (x : Datum × ℕ) → IsSound r → at ≤ r.end → d ≤ 513 → is_leaf t ≡ true → leaf_at r t at ≡ Ok x → Found r t d w at x.0 x.1
+leaf_found r t d w at x sound order small leaf e =
+    let st = (leaf_stands r t at x sound order leaf e).1 in
+    record {
+      goes_on = λ ds. from_step r (due t d w) ds at (taken [] (windows_at x.0) x.1) sound order (leaf_atom r t d w at (Ok x) leaf e);
+      spelled = st.spelled;
+      fits = st.fits;
+      depth = omega (arith, st.flat);
+      stands = st.stands;
+      has_all = st.has_all;
+      folded = st.folded;
+      forward = omega (arith, st.ahead, st.skips);
+      within = st.within;
     }
 
 -- ---- what the code makes of a node

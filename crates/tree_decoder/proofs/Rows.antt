@@ -24,7 +24,7 @@ use Rattle.tree_decoder.specs.Range.{Range, IsSound, held, left}
 use Rattle.container.specs.SpelledAtom.{spelled_atom}
 use Rattle.tree_decoder.specs.Row.{Longest, here, and_then}
 use Rattle.tree_decoder.specs.Windows.{windows_at}
-use Rattle.tree_decoder.proofs.Dues.{left_at, puts_kind}
+use Rattle.tree_decoder.proofs.Spelling.{left_at, puts_kind}
 use Rattle.tree_decoder.proofs.Moves.{atom_cases, atom_moves}
 use Rattle.tree_decoder.proofs.Nodes.{absent_stands, count_stands, kind_stands}
 use Rattle.tree_decoder.proofs.Single.{leaf_stands}
@@ -80,7 +80,7 @@ one_atom s h _ _ leaf ok folded = absurd cc
 
 leaf_step : (r : Range) (t : FieldType) (d : ℕ) (w : Bool) (at : ℕ) (x : Datum × ℕ) → IsSound r → at ≤ r.end → is_leaf t ≡ true → leaf_at r t at ≡ Ok x → Step r t d w at (taken [] (windows_at x.0) x.1)
 leaf_step r t d w at x sound order leaf e =
-    let st = leaf_stands r t at x sound order leaf e in
+    let st = (leaf_stands r t at x sound order leaf e).1 in
     let plain = and_first (is_folded t x.0) (folded_at x.0) st.folded in
     let a = one_atom r.tables (held r) t x.0 leaf st.fits plain in
     let gone = left_at (held r) x.0 t d w st.fits (named_at_where_stands r x.0 st.stands) plain (and_second (is_folded t x.0) (folded_at x.0) st.folded) (λ inside. a.eager) [] [] in

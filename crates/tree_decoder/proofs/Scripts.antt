@@ -1,5 +1,5 @@
 -- A script is read from all of the bytes.
-use Rattle.std.proofs.Common.{ℕ, ◌+◌, ◌-◌, ◌<◌, ◌≤◌, ◌≡◌, true, false, List, [], ◌∷◌, ◌++◌, length, take, drop, Some, None, Result, Ok, Err, ◌&&◌, refl, sym, ap, subst, ◌∙◌, arith, append-nil}
+use Rattle.std.proofs.Common.{ℕ, ◌+◌, ◌-◌, ◌<◌, ◌≤◌, ◌≡◌, true, false, List, [], ◌∷◌, ◌++◌, take, drop, Some, None, Result, Ok, Err, ◌&&◌, refl, sym, ap, subst, ◌∙◌, arith, append-nil}
 use Rattle.bast_base.specs.declared.errors.Halt.{Halt}
 use Rattle.bast_base.specs.declared.errors.Halt.TheVariants.{Memory, Format}
 use Rattle.bast_base.specs.declared.errors.Why.TheVariants.{Trailing}
@@ -19,8 +19,7 @@ use Rattle.tree_decoder.specs.Range.{Range, IsSound, held, left}
 use Rattle.tree_decoder.specs.Script.{IsScript, ReadsScript, script, script_outcome}
 use Rattle.tree_decoder.specs.Spelt.{IsSpelt, NoFault}
 use Rattle.tree_decoder.specs.Windows.{windows, windows_at, skipped}
-use Rattle.tree_decoder.proofs.Accepts.{accept_tree}
-use Rattle.tree_decoder.proofs.Spells.{left_length}
+use Rattle.tree_decoder.proofs.Spelling.{tree_accepted}
 use Rattle.tree_decoder.proofs.Machine.{trailing, all_read, skipped_both, skips_within}
 
 none_left : (r : Range) (next : ℕ) → r.end ≤ next → left r next ≡ []
@@ -57,12 +56,8 @@ script_spends r at v next old new sound f s =
 -- the bytes of a script are read with no fault
 pub script_accepted : (r : Range) (at : ℕ) (h : Held) (t : Tree) → IsSound r → at ≤ r.end → IsSpelt r at h t → (script_outcome r at).fault ≡ None
 script_accepted r at h t sound order is =
-    let shallow : depth t ≤ 512 = is.shallow in
-    let whole : left r at ≡ spelled r.tables h t ++ [] = is.spelled ∙ sym (append-nil (spelled r.tables h t)) in
-    let long : r.end - at ≡ length (spelled r.tables h t) = sym (left_length r at sound order) ∙ ap length is.spelled in
     let ok : (allowed (One Script) (kind_of t) && typed t) ≡ true = rw (is.kind, is.typed) refl in
-    accept_tree r h sound t (One Script) false 1 false at [] order ok is.has_all is.named (λ yes. absurd cc) (omega arith) whole []
-    ∙ ap (λ (o : Outcome). o.fault) (all_read r (at + length (spelled r.tables h t)) (omega arith))
+    tree_accepted r h t (One Script) at sound order ok is.has_all is.named is.shallow is.spelled
 
 pub only_memory : (r : Range) (at : ℕ) (q : Result Tree Halt) → IsSound r → at ≤ r.end → ReadsScript r at q → (h : Held) (t : Tree) → IsSpelt r at h t → NoFault q
 only_memory r at (Ok u) sound order reads h t is = tt

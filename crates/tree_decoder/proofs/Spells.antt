@@ -30,11 +30,6 @@ pub guard_ok : {A : Type 0} (b : Bool) (d : FormatFault) (r : Result A FormatFau
 guard_ok true d r y e = absurd cc
 guard_ok false d r y e = (refl, e)
 
--- a test that chose the value
-pub chosen_ok : {A : Type 0} (b : Bool) (x : A) (d : FormatFault) (y : A) → cond b (is_ok x) (Err d) ≡ Ok y → (b ≡ true) × (x ≡ y)
-chosen_ok true x d y e = (refl, cc)
-chosen_ok false x d y e = absurd cc
-
 pub range_drop : (tape : List ℕ) (a n e : ℕ) → a + n ≤ e → drop n (slice_range tape a e) ≡ slice_range tape (a + n) e
 range_drop tape a n e order =
     let whole : e - a ≡ n + (e - (a + n)) = omega arith in

@@ -18,10 +18,9 @@ use Rattle.tree_decoder.specs.Outcome.{ends, after, go, outcome_from}
 use Rattle.tree_decoder.specs.Range.{Range, IsSound}
 use Rattle.tree_decoder.specs.Script.{IsScript, script, script_outcome}
 use Rattle.tree_decoder.proofs.Moves.{atom_cases, kind_moves, count_moves}
-use Rattle.tree_decoder.proofs.Nodes.{kind_stands, node_found, absent_found, list_found}
+use Rattle.tree_decoder.proofs.Nodes.{kind_stands, node_found, absent_found, leaf_found, list_found}
 use Rattle.tree_decoder.proofs.Runs.{run_none, run_cons}
 use Rattle.tree_decoder.proofs.Scripts.{script_stands}
-use Rattle.tree_decoder.proofs.Single.{leaf_found}
 
 -- a value for each due, one after another, and nothing after them
 abbrev Each : Range → List Due → ℕ → Type 0

@@ -99,7 +99,7 @@ unnested_script r at t read none_left = eager_is_unnested t (eager_tree t read.t
 
 same_atoms : (r : Range) (at : ℕ) (h : Held) (t u : Tree) (b : Bool) → is_whole t ≡ b → (b || folded u) ≡ true → IsScript r at t → IsSpelt r at h u → atoms (held r) t ≡ atoms h u
 same_atoms r at h t u true no_window e read spelt =
-    one_eager_tree r.tables (held r) h t u read.has_all spelt.has_all read.typed spelt.typed no_window (eager_tree t read.typed read.folded no_window) (sym read.spelled ∙ spelt.spelled)
+    one_eager_tree r.tables (held r) h t u read.has_all spelt.has_all read.typed spelt.typed no_window read.folded (sym read.spelled ∙ spelt.spelled)
 same_atoms r at h t u false some e read spelt = one_folded_tree r.tables (held r) h t u read.has_all spelt.has_all read.typed spelt.typed read.folded e (sym read.spelled ∙ spelt.spelled)
 
 pub one_script : (r : Range) (at : ℕ) (h : Held) (t u : Tree) → IsScript r at t → IsSpelt r at h u → (is_whole t || folded u) ≡ true → IsSameTree (held r) h t u
