@@ -44,9 +44,7 @@ use Rattle.tree_decoder.specs.Range.{Range, IsSound, left}
 use Rattle.tree_decoder.specs.Windows.{windows_at}
 use Rattle.tree_decoder.proofs.EagerWhole.{not_true}
 use Rattle.tree_decoder.proofs.Nodes.{kind_atom, count_atom}
-use Rattle.tree_decoder.proofs.Single.{leaf_atom, first_byte}
-use Rattle.tree_decoder.proofs.Spells.{is_ok, range_drop, left_length}
-use Rattle.tree_decoder.proofs.Wholes.{whole_here}
+use Rattle.tree_decoder.proofs.Single.{leaf_atom, first_byte, whole_here, is_ok, range_drop, left_length}
 
 -- ---- parts of the bytes
 

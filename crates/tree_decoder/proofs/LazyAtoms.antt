@@ -28,7 +28,7 @@ use Rattle.tree_decoder.proofs.Whole.{named_where_stands}
 use Rattle.tree_decoder.specs.LazyKinds.{is_eager_kind, first_lazy, kinds_of, kinds_at, kinds_in}
 use Rattle.tree_decoder.specs.Reading.{IsFileOfScript}
 use Rattle.tree_decoder.proofs.EagerWhole.{all_eager}
-use Rattle.tree_decoder.proofs.OneFile.{file_of}
+use Rattle.tree_decoder.proofs.InGrammar.{file_of}
 
 pub joined : {X : Type 0} (p : X → Bool) (xs ys : List X) → list_all p xs ≡ true → list_all p ys ≡ true → list_all p (xs ++ ys) ≡ true
 joined p xs ys a b = list_all-append p xs ys ∙ both (list_all p xs) (list_all p ys) a b

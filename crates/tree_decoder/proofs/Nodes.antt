@@ -39,10 +39,8 @@ use Rattle.tree_decoder.specs.Numbers.{number_from, judged, kind_of_number, kind
 use Rattle.tree_decoder.specs.Outcome.{Outcome, outcome_from}
 use Rattle.tree_decoder.specs.Range.{Range, IsSound, held, left}
 use Rattle.tree_decoder.specs.Windows.{windows_at}
-use Rattle.tree_decoder.proofs.Machine.{from_step, from_fails}
-use Rattle.tree_decoder.proofs.Moves.{atom_moves, kind_moves, count_moves}
-use Rattle.tree_decoder.proofs.Single.{any_at, leaf_atom, leaf_stands}
-use Rattle.tree_decoder.proofs.Spells.{bind_ok, guard_ok, is_ok, ok_is, number_spells}
+use Rattle.tree_decoder.proofs.Machine.{from_step, from_fails, atom_moves, kind_moves, count_moves}
+use Rattle.tree_decoder.proofs.Single.{any_at, leaf_atom, leaf_stands, bind_ok, guard_ok, is_ok, ok_is, number_spells}
 
 -- ---- kinds
 

@@ -25,7 +25,7 @@ use Rattle.container.specs.SpelledAtom.{spelled_atom}
 use Rattle.tree_decoder.specs.Row.{Longest, here, and_then}
 use Rattle.tree_decoder.specs.Windows.{windows_at}
 use Rattle.tree_decoder.proofs.Spelling.{left_at, puts_kind}
-use Rattle.tree_decoder.proofs.Moves.{atom_cases, atom_moves}
+use Rattle.tree_decoder.proofs.Machine.{atom_cases, atom_moves}
 use Rattle.tree_decoder.proofs.Nodes.{absent_stands, count_stands, kind_stands}
 use Rattle.tree_decoder.proofs.Single.{leaf_stands}
 use Rattle.tree_decoder.proofs.Whole.{named_at_where_stands}

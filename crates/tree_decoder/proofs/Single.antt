@@ -1,17 +1,17 @@
 -- A value with no parts is spelled by the bytes that it was read from.
-use Rattle.std.proofs.Common.{ℕ, zero, suc, ◌+◌, ◌-◌, ◌<◌, ◌≤◌, ◌≡◌, Bool, true, false, cond, ltb, eqb, ◌&&◌, ◌||◌, List, [], ◌∷◌, ◌++◌, length, take, drop, get_or, Option, Some, None, Result, Ok, Err, refl, sym, ap, subst, ◌∙◌, arith, append_assoc, drop-cons, slice_get, slice_index, slice_range, inl, inr}
+use Rattle.std.proofs.Common.{ℕ, zero, suc, ◌+◌, ◌-◌, ◌<◌, ◌≤◌, ◌≡◌, Bool, true, false, cond, ltb, eqb, ◌&&◌, ◌||◌, List, [], ◌∷◌, ◌++◌, length, take, drop, get_or, Option, Some, None, Result, Ok, Err, refl, sym, ap, subst, ◌∙◌, arith, append_assoc, drop-cons, slice_get, slice_index, slice_range, inl, inr, ◌^◌, length-append}
 use Rattle.std.specs.List.{All, list_all, list_any}
 use Rattle.std.specs.Option.{unwrap_or}
 use Rattle.std.specs.Int.{w64, from_be_bytes, to_be_bytes}
-use Rattle.std.proofs.lemmas.Bool.{ltb-false, ltb-true, lt-ltb, eqb-true, cases_lt}
+use Rattle.std.proofs.lemmas.Bool.{ltb-false, ltb-true, lt-ltb, eqb-true, cases_lt, le-ltb}
 use Rattle.std.proofs.lemmas.Bool.Decides.{nat_tests}
-use Rattle.std.proofs.lemmas.List.{get_or_past}
+use Rattle.std.proofs.lemmas.List.{get_or_past, drop-take, drop-drop}
 use Rattle.std.proofs.lemmas.List.Elements.{All-take, All-drop}
 use Rattle.std.specs.Prelude.{nat_le}
 use Rattle.std.proofs.lemmas.Nat.{be_bytes_8}
 use Rattle.std.proofs.lemmas.Option.{get_or_from_slice_get, slice_get_within}
 use Rattle.bast_base.specs.declared.errors.FormatFault.{FormatFault}
-use Rattle.bast_base.specs.declared.errors.Why.TheVariants.{Ended, BadBool}
+use Rattle.bast_base.specs.declared.errors.Why.TheVariants.{Ended, BadBool, BadWhole}
 use Rattle.var_numbers.specs.Pattern.{pattern}
 use Rattle.var_numbers.specs.ReadClauses.{Spells}
 use Rattle.var_numbers.specs.Varnum.{varnum}
@@ -32,15 +32,136 @@ use Rattle.container.specs.InFile.{has_atom}
 use Rattle.container.specs.Spelled.{framed, spelled_at}
 use Rattle.container.specs.Tables.{Tables, text_place}
 use Rattle.tree_decoder.specs.Dues.{taken, atom_of}
-use Rattle.tree_decoder.specs.Found.{stands_at, is_text}
+use Rattle.tree_decoder.specs.Found.{stands_at, is_text, Gives, SpendsLeaf}
 use Rattle.container.specs.Answers.{fault, ◌>>=◌}
-use Rattle.tree_decoder.specs.Numbers.{number_from, name_of, label_of, variant_of, choice_at, window_of, whole_with, whole_or, whole_at, flag_of, flag_at, numbered, leaf_at, is_leaf}
+use Rattle.tree_decoder.specs.Numbers.{number_from, name_of, label_of, variant_of, choice_at, window_of, whole_with, whole_or, whole_at, flag_of, flag_at, numbered, leaf_at, is_leaf, passing_below}
 use Rattle.container.specs.Folded.{is_folded, folded_at}
 use Rattle.tree_decoder.specs.Range.{Range, IsSound, held, left}
 use Rattle.tree_decoder.specs.Windows.{skipped, windows_at}
 use Rattle.container.proofs.Ranges.{range_split}
-use Rattle.tree_decoder.proofs.Spells.{bind_ok, guard_ok, is_ok, ok_is, number_spells}
-use Rattle.tree_decoder.proofs.Wholes.{whole_is}
+use Rattle.var_numbers.proofs.PatternLemmas.{pattern-injective}
+use Rattle.bast_schema.specs.declared.node.Value.{Value}
+use Rattle.bast_schema.specs.View.{datum}
+use Rattle.var_numbers.specs.VarnumRead.{number_in, moved}
+use Rattle.var_numbers.proofs.InverseLemmas.{number_in-spelled}
+use Rattle.var_numbers.proofs.VarnumLemmas.{varnum-nonempty}
+
+-- ---- a number that is read is spelled by the bytes that were passed
+
+-- the value of a step that did not fail
+pub bind_ok : {A B : Type 0} (r : Result A FormatFault) (f : A → Result B FormatFault) (y : B) → (r >>= f) ≡ Ok y → (x : A) × (r ≡ Ok x) × (f x ≡ Ok y)
+bind_ok (Ok x) f y e = (x, refl, e)
+bind_ok (Err d) f y e = absurd cc
+
+abbrev pub is_ok : {A : Type 0} → A → Result A FormatFault
+is_ok x = Ok x
+
+pub ok_is : {A : Type 0} (x y : A) → is_ok x ≡ is_ok y → x ≡ y
+ok_is x y e = cc
+
+-- a test that did not fail
+pub guard_ok : {A : Type 0} (b : Bool) (d : FormatFault) (r : Result A FormatFault) (y : A) → cond b (Err d) r ≡ Ok y → (b ≡ false) × (r ≡ Ok y)
+guard_ok true d r y e = absurd cc
+guard_ok false d r y e = (refl, e)
+
+pub range_drop : (tape : List ℕ) (a n e : ℕ) → a + n ≤ e → drop n (slice_range tape a e) ≡ slice_range tape (a + n) e
+range_drop tape a n e order =
+    let whole : e - a ≡ n + (e - (a + n)) = omega arith in
+    ap (λ (k : ℕ). drop n (take k (drop a tape))) whole ∙ drop-take n (e - (a + n)) (drop a tape) ∙ ap (take (e - (a + n))) (drop-drop n a tape)
+
+pub left_length : (r : Range) (at : ℕ) → IsSound r → at ≤ r.end → length (left r at) ≡ r.end - at
+left_length r at sound order = range-length r.tape at r.end order sound.within
+
+pub bytes_left : (r : Range) (at : ℕ) → IsSound r → All (λ byte. byte < 256) (left r at)
+bytes_left r at sound = All-take (λ byte. byte < 256) (r.end - at) (drop at r.tape) (All-drop (λ byte. byte < 256) at r.tape sound.bytes)
+
+moved_ok : (at : ℕ) (o : Result (ℕ × ℕ) FormatFault) (x : ℕ × ℕ) → moved at o ≡ Ok x → (y : ℕ × ℕ) × (o ≡ Ok y) × ((y.0, at + y.1) ≡ x)
+moved_ok at (Ok y) x e = (y, refl, ok_is _ _ e)
+moved_ok at (Err f) x e = absurd cc
+
+-- what begins with a part goes on behind it
+spells_front : (r : Range) (at n count : ℕ) → IsSound r → at ≤ r.end → n < 2 ^ 32 → count ≡ length (varnum n) → left r at ≡ varnum n ++ drop count (left r at) → Spells r.tape at r.end n (at + count)
+spells_front r at n count sound order small long front =
+    let whole : length (left r at) ≡ r.end - at = left_length r at sound order in
+    let parts : length (left r at) ≡ length (varnum n) + length (drop count (left r at)) = ap length front ∙ length-append (varnum n) (drop count (left r at)) in
+    let some : 1 ≤ length (varnum n) = varnum-nonempty n in
+    let within : at + count ≤ r.end = omega arith in
+    record {
+      small = small;
+      next_is = ap (λ (k : ℕ). at + k) long;
+      ahead = omega arith;
+      within = within;
+      front = front ∙ ap (λ (xs : List ℕ). varnum n ++ xs) (range_drop r.tape at count r.end within);
+    }
+
+pub number_spells : (r : Range) (at : ℕ) (x : ℕ × ℕ) → IsSound r → at ≤ r.end → number_from r at ≡ Ok x → Spells r.tape at r.end x.0 x.1
+number_spells r at x sound order e =
+    let m = moved_ok at (number_in (left r at)) x e in
+    let read = number_in-spelled (left r at) m.0.0 m.0.1 (bytes_left r at sound) m.1 in
+    subst (λ (y : ℕ × ℕ). Spells r.tape at r.end y.0 y.1) m.2 (spells_front r at m.0.0 m.0.1 sound order read.small read.count_is read.front)
+
+-- ---- the whole number that eight bytes are the pattern of
+
+eqb_same : (m n : ℕ) → m ≡ n → eqb m n ≡ true
+eqb_same m n e = grind (arith, nat_tests)
+
+-- the only number that passes is found
+found_last : (p : ℕ → Bool) (m n : ℕ) (b : Bool) → p m ≡ b → n < suc m → p n ≡ true → ((k : ℕ) → k < suc m → p k ≡ true → k ≡ n) → (n < m → passing_below p m ≡ Some n) → cond b (Some m) (passing_below p m) ≡ Some n
+found_last p m n true e less is only rest = ap Some (only m (omega arith) e)
+found_last p m n false e less is only rest =
+    let other : m ≡ n → ⊥ = λ same. let both : false ≡ true = sym e ∙ ap p same ∙ is in cc in
+    rest (omega (arith, other))
+
+pub passing_found : (p : ℕ → Bool) (m n : ℕ) → n < m → p n ≡ true → ((k : ℕ) → k < m → p k ≡ true → k ≡ n) → passing_below p m ≡ Some n
+unfolding passing_below
+passing_found p zero n less is only = absurd (omega arith)
+passing_found p (suc m) n less is only = found_last p m n (p m) refl less is only (λ lt. passing_found p m n lt is (λ k below. only k (omega arith)))
+
+none_last : (p : ℕ → Bool) (m : ℕ) (b : Bool) → p m ≡ b → ((k : ℕ) → k < suc m → p k ≡ true → ⊥) → passing_below p m ≡ None → cond b (Some m) (passing_below p m) ≡ None
+none_last p m true e never rest = absurd (never m (omega arith) e)
+none_last p m false e never rest = rest
+
+pub passing_none : (p : ℕ → Bool) (m : ℕ) → ((k : ℕ) → k < m → p k ≡ true → ⊥) → passing_below p m ≡ None
+unfolding passing_below
+passing_none p zero never = refl
+passing_none p (suc m) never = none_last p m (p m) refl never (passing_none p m (λ k below. never k (omega arith)))
+
+is_last : (p : ℕ → Bool) (m n : ℕ) (b : Bool) → p m ≡ b → cond b (Some m) (passing_below p m) ≡ Some n → (passing_below p m ≡ Some n → (n < m) × (p n ≡ true)) → (n < suc m) × (p n ≡ true)
+is_last p m n true is h rest = let same : m ≡ n = cc in (omega arith, ap p (sym same) ∙ is)
+is_last p m n false is h rest = let r = rest h in let less : n < m = r.0 in (omega arith, r.1)
+
+pub passing_is : (p : ℕ → Bool) (m n : ℕ) → passing_below p m ≡ Some n → (n < m) × (p n ≡ true)
+unfolding passing_below
+passing_is p zero n e = absurd cc
+passing_is p (suc m) n e = is_last p m n (p m) refl e (passing_is p m n)
+
+pub whole_found : (bits n : ℕ) → n < 2 ^ 53 → pattern n ≡ bits → whole_with bits ≡ Some n
+unfolding whole_with
+whole_found bits n less is = passing_found (λ k. eqb (pattern k) bits) (2 ^ 53) n less (eqb_same (pattern n) bits is) (λ k lt e. pattern-injective k n lt less (eqb-true (pattern k) bits e ∙ sym is))
+
+pub whole_none : (bits : ℕ) → ((n : ℕ) → n < 2 ^ 53 → pattern n ≡ bits → ⊥) → whole_with bits ≡ None
+unfolding whole_with
+whole_none bits never = passing_none (λ k. eqb (pattern k) bits) (2 ^ 53) (λ k lt e. never k lt (eqb-true (pattern k) bits e))
+
+pub whole_is : (bits n : ℕ) → whole_with bits ≡ Some n → (n < 2 ^ 53) × (pattern n ≡ bits)
+unfolding whole_with
+whole_is bits n e = let r = passing_is (λ k. eqb (pattern k) bits) (2 ^ 53) n e in (r.0, eqb-true (pattern n) bits r.1)
+
+pub whole_here : (r : Range) (at bits n : ℕ) → at + 8 ≤ r.end → bits ≡ from_be_bytes w64 (slice_range r.tape at (at + 8)) → n < 2 ^ 53 → pattern n ≡ bits → whole_at r at ≡ Ok (whole n, at + 8)
+unfolding whole_at
+whole_here r at bits n far is less same =
+    let long : ltb r.end (at + 8) ≡ false = le-ltb _ _ far in
+    let found : whole_with (from_be_bytes w64 (slice_range r.tape at (at + 8))) ≡ Some n = whole_found _ n less (same ∙ is) in
+    rw (long, found) refl
+
+pub whole_bad : (r : Range) (at bits : ℕ) → at + 8 ≤ r.end → bits ≡ from_be_bytes w64 (slice_range r.tape at (at + 8)) → ((n : ℕ) → n < 2 ^ 53 → pattern n ≡ bits → ⊥) → whole_at r at ≡ Err (fault at BadWhole)
+unfolding whole_at
+whole_bad r at bits far is never =
+    let long : ltb r.end (at + 8) ≡ false = le-ltb _ _ far in
+    let found : whole_with (from_be_bytes w64 (slice_range r.tape at (at + 8))) ≡ None = whole_none _ (λ n lt e. never n lt (e ∙ sym is)) in
+    rw (long, found) refl
+
+-- ----
 
 or_true : (a b : Bool) → b ≡ true → (a || b) ≡ true
 or_true true b e = refl
@@ -236,3 +357,20 @@ leaf_atom r (field.Node u) d w at q leaf e = absurd cc
 leaf_atom r (field.Optional u) d w at q leaf e = absurd cc
 leaf_atom r (field.List u holes filled) d w at q leaf e = absurd cc
 leaf_atom r _ d w at q leaf e = ap (λ p. p >>= λ v. is_ok (taken [] (windows_at v.0) v.1)) e
+
+-- ---- the steps of reading a value with no parts
+
+pub numbered_spends : (r : Range) (t : FieldType) (at n next old new : ℕ) (res : Result (Value × ℕ) FormatFault) → IsSound r → Spells r.tape at r.end n next → Gives res (numbered r t at n next) → new ≤ old + (next - at) → SpendsLeaf r at old new res
+numbered_spends r t at n next old new (Ok x) sound s e spent =
+    let st = numbered_stands r t at n next (datum x.0, x.1) sound s e in
+    omega (arith, st.ahead, st.skips)
+numbered_spends r t at n next old new (Err f) sound s e spent = omega (arith, s.ahead, s.within)
+
+pub numbered_gives : (r : Range) (t : FieldType) (at n next : ℕ) (read : Result (Datum × ℕ) FormatFault) (res : Result (Value × ℕ) FormatFault) → Gives res (numbered r t at n next) → read ≡ numbered r t at n next → Gives res read
+numbered_gives r t at n next read (Ok x) e is = is ∙ e
+numbered_gives r t at n next read (Err f) e is = is ∙ e
+
+pub leaf_number : (r : Range) (t : FieldType) (at : ℕ) (x : ℕ × ℕ) → (t ≡ field.Bool → ⊥) → (t ≡ field.Whole → ⊥) → number_from r at ≡ is_ok x → leaf_at r t at ≡ numbered r t at x.0 x.1
+leaf_number r field.Bool at x no_flag no_whole e = absurd (no_flag refl)
+leaf_number r field.Whole at x no_flag no_whole e = absurd (no_whole refl)
+leaf_number r t at x no_flag no_whole e = ap (λ n. n >>= λ y. numbered r t at y.0 y.1) e

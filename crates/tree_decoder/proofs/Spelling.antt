@@ -41,8 +41,7 @@ use Rattle.tree_decoder.specs.Range.{Range, IsSound, left}
 use Rattle.tree_decoder.proofs.Accepts.{again, back_atoms, first_atom, other_atoms, part_rest, part_within, sits}
 use Rattle.tree_decoder.proofs.Machine.{all_read, from_step}
 use Rattle.tree_decoder.proofs.Nodes.{plain_item, spelled_times, times_atoms}
-use Rattle.tree_decoder.proofs.Single.{is_le}
-use Rattle.tree_decoder.proofs.Spells.{left_length}
+use Rattle.tree_decoder.proofs.Single.{is_le, left_length}
 
 -- how deep a counted node may stand, whether a name may stand for the absent string, and whether a lazy field may hold a node
 -- and a window

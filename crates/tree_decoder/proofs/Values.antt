@@ -17,10 +17,10 @@ use Rattle.tree_decoder.specs.Numbers.{kind_at, count_at, leaf_at, is_leaf}
 use Rattle.tree_decoder.specs.Outcome.{ends, after, go, outcome_from}
 use Rattle.tree_decoder.specs.Range.{Range, IsSound}
 use Rattle.tree_decoder.specs.Script.{IsScript, script, script_outcome}
-use Rattle.tree_decoder.proofs.Moves.{atom_cases, kind_moves, count_moves}
+use Rattle.tree_decoder.proofs.Machine.{atom_cases, kind_moves, count_moves}
 use Rattle.tree_decoder.proofs.Nodes.{kind_stands, node_found, absent_found, leaf_found, list_found}
 use Rattle.tree_decoder.proofs.Runs.{run_none, run_cons}
-use Rattle.tree_decoder.proofs.Scripts.{script_stands}
+use Rattle.tree_decoder.proofs.Whole.{script_stands}
 
 -- a value for each due, one after another, and nothing after them
 abbrev Each : Range → List Due → ℕ → Type 0

@@ -1,7 +1,6 @@
 use Rattle.std.proofs.Common.{sym}
 use Rattle.tree_decoder.specs.Range.{range_of}
-use Rattle.tree_decoder.proofs.Spending.{numbered_spends, numbered_gives, leaf_number}
-use Rattle.tree_decoder.proofs.Spells.{number_spells}
+use Rattle.tree_decoder.proofs.Single.{numbered_spends, numbered_gives, leaf_number, number_spells}
 use Rattle.tree_decoder.proofs.leaves.leaf.Goals as goal
 
 pub returns-in_ok-number-in_default-clause-is : goal.returns-in_ok-number-in_default-clause-is
