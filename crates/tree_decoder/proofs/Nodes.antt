@@ -1,12 +1,10 @@
 -- What is read of a node and of a list.
-use Rattle.std.proofs.Common.{ℕ, zero, suc, ◌+◌, ◌-◌, ◌≤◌, ◌≡◌, Bool, true, false, not, ◌&&◌, ◌||◌, cond, ltb, eqb, List, [], ◌∷◌, ◌++◌, length, Option, Some, None, Result, Ok, Err, refl, sym, ap, subst, ◌∙◌, arith, append_assoc, slice_get}
+use Rattle.std.proofs.Common.{ℕ, zero, suc, ◌+◌, ◌-◌, ◌≤◌, ◌≡◌, Bool, true, false, not, ◌&&◌, ◌||◌, cond, ltb, eqb, List, [], ◌∷◌, ◌++◌, length, Option, Some, None, Result, Ok, Err, refl, sym, ap, subst, ◌∙◌, arith, append_assoc}
 use Rattle.std.specs.List.{list_all}
-use Rattle.std.specs.Option.{unwrap_or}
 use Rattle.std.proofs.lemmas.Bool.{ltb-false}
 use Rattle.bast_base.specs.declared.errors.FormatFault.{FormatFault}
 use Rattle.bast_base.specs.declared.errors.Halt.{Halt}
 use Rattle.bast_base.specs.declared.errors.Halt.TheVariants.{Memory, Format}
-use Rattle.bast_base.specs.declared.errors.Why.TheVariants.{BadKind, EmptyList, TooDeep}
 use Rattle.var_numbers.specs.Varnum.{varnum}
 use Rattle.bast_schema.specs.declared.kind.FieldType.{FieldType}
 use Rattle.bast_schema.specs.declared.kind.FieldType.TheVariants as field
@@ -15,15 +13,13 @@ use Rattle.bast_schema.specs.declared.kind.Kind.TheVariants.{Null}
 use Rattle.bast_schema.specs.declared.kind.Union.{Union}
 use Rattle.bast_schema.specs.declared.kind.Union.TheVariants.{Body}
 use Rattle.bast_schema.specs.declared.node.NodeFault.{NodeFault}
-use Rattle.bast_schema.specs.Fields.{fields, has_lazy}
+use Rattle.bast_schema.specs.Fields.{fields}
 use Rattle.bast_schema.specs.Held.{Held}
-use Rattle.bast_schema.specs.Kinds.{counted, same_kind}
+use Rattle.bast_schema.specs.Kinds.{counted}
 use Rattle.bast_schema.specs.Made.{node_of}
 use Rattle.bast_schema.specs.Tree.{Tree, branch, Datum, child, absent, listed, choice, Data, none, more, fits, fit, items_fit, item_type, is_none, count, depth, depth_in, typed, kind_of}
 use Rattle.bast_schema.specs.Unions.{allowed}
 use Rattle.bast_schema.proofs.Both.{and_first, and_second, both}
-use Rattle.bast_schema.proofs.Distinct.{place_of_at}
-use Rattle.bast_schema.proofs.EachKind.{same_kind_self, same_kind_true}
 use Rattle.bast_schema.proofs.Lists.{count_fit}
 use Rattle.bast_schema.proofs.Typed.{made_where_fit}
 use Rattle.container.specs.Atoms as atom
@@ -34,94 +30,13 @@ use Rattle.container.specs.Tables.{Tables, kind_place}
 use Rattle.tree_decoder.specs.Dues.{Due, due, dues, times, below, children, taken, atom_of}
 use Rattle.tree_decoder.specs.Found.{Found, Run, Fails, Spent, SpentFails}
 use Rattle.container.specs.Folded.{is_folded, folded_at, folded_fields, folded_items}
-use Rattle.container.specs.Answers.{fault, ◌>>=◌}
-use Rattle.tree_decoder.specs.Numbers.{number_from, judged, kind_of_number, kind_at, count_at, leaf_at, is_leaf}
+use Rattle.container.specs.Answers.{◌>>=◌}
+use Rattle.tree_decoder.specs.Numbers.{kind_at, count_at, leaf_at, is_leaf}
 use Rattle.tree_decoder.specs.Outcome.{Outcome, outcome_from}
 use Rattle.tree_decoder.specs.Range.{Range, IsSound, held, left}
 use Rattle.tree_decoder.specs.Windows.{windows_at}
-use Rattle.tree_decoder.proofs.Machine.{from_step, from_fails, atom_moves, kind_moves, count_moves}
-use Rattle.tree_decoder.proofs.Single.{any_at, leaf_atom, leaf_stands, bind_ok, guard_ok, is_ok, ok_is, number_spells}
-
--- ---- kinds
-
-pub record Judged (u : Union) (d next : ℕ) (w : Bool) (j k : Kind) (m : ℕ) : Type 0 where
-  pub same : j ≡ k
-  pub place : next ≡ m
-  pub allowed : allowed u k ≡ true
-  pub plain : (w && has_lazy k) ≡ false
-  pub shallow : (counted k && ltb 512 d) ≡ false
-
-neither : (a b : Bool) → (not a || b) ≡ false → (a ≡ true) × (b ≡ false)
-neither true b e = (refl, e)
-neither false b e = absurd cc
-
-judged_some : (u : Union) (d : ℕ) (w : Bool) (at next : ℕ) (j k : Kind) (m : ℕ) → judged u d w at next j ≡ Ok (Some k, m) → Judged u d next w j k m
-judged_some u d w at next j k m e =
-    let g = guard_ok (not (allowed u j) || (w && has_lazy j)) (fault at BadKind) (cond (counted j && ltb 512 d) (Err (fault at TooDeep)) (Ok (Some j, next))) (Some k, m) e in
-    let h = guard_ok (counted j && ltb 512 d) (fault at TooDeep) (Ok (Some j, next)) (Some k, m) g.1 in
-    let is : (Some j, next) ≡ (Some k, m) = ok_is _ _ h.1 in
-    let kind : Some j ≡ Some k = ap (λ (p : Option Kind × ℕ). p.0) is in
-    let same : j ≡ k = cc in
-    record { same = same; place = ap (λ (p : Option Kind × ℕ). p.1) is; allowed = rw (← same) (neither (allowed u j) (w && has_lazy j) g.0).0; plain = rw (← same) (neither (allowed u j) (w && has_lazy j) g.0).1; shallow = rw (← same) h.0 }
-
-judged_none : (u : Union) (d : ℕ) (w : Bool) (at next : ℕ) (j : Kind) (m : ℕ) → judged u d w at next j ≡ Ok (None, m) → ⊥
-judged_none u d w at next j m e =
-    let g = guard_ok (not (allowed u j) || (w && has_lazy j)) (fault at BadKind) (cond (counted j && ltb 512 d) (Err (fault at TooDeep)) (Ok (Some j, next))) (None, m) e in
-    let h = guard_ok (counted j && ltb 512 d) (fault at TooDeep) (Ok (Some j, next)) (None, m) g.1 in
-    let is : (Some j, next) ≡ (None, m) = ok_is _ _ h.1 in
-    let kind : Some j ≡ None = ap (λ (p : Option Kind × ℕ). p.0) is in
-    cc
-
-chose_kind : (b : Bool) (u : Union) (d : ℕ) (w : Bool) (at next : ℕ) (j k : Kind) (m : ℕ) → cond b (is_ok (None, next)) (judged u d w at next j) ≡ Ok (Some k, m) → Judged u d next w j k m
-chose_kind true u d w at next j k m e = let is : (None, next) ≡ (Some k, m) = ok_is _ _ e in let kind : None ≡ Some k = ap (λ (p : Option Kind × ℕ). p.0) is in absurd cc
-chose_kind false u d w at next j k m e = judged_some u d w at next j k m e
-
-chose_absent : (b : Bool) (u : Union) (d : ℕ) (w : Bool) (at next : ℕ) (j : Kind) (m : ℕ) → cond b (is_ok (None, next)) (judged u d w at next j) ≡ Ok (None, m) → (b ≡ true) × (next ≡ m)
-chose_absent true u d w at next j m e = (refl, ap (λ (p : Option Kind × ℕ). p.1) (ok_is _ _ e))
-chose_absent false u d w at next j m e = absurd (judged_none u d w at next j m e)
-
-numbered_kind : (o : Option Kind) (u : Union) (optional : Bool) (d : ℕ) (w : Bool) (at next : ℕ) (k : Kind) (m : ℕ) → kind_of_number u optional d w at next o ≡ Ok (Some k, m) → (j : Kind) × (o ≡ Some j) × Judged u d next w j k m
-numbered_kind None u optional d w at next k m e = absurd cc
-numbered_kind (Some j) u optional d w at next k m e = (j, refl, chose_kind (optional && same_kind j Null) u d w at next j k m e)
-
-numbered_absent : (o : Option Kind) (u : Union) (optional : Bool) (d : ℕ) (w : Bool) (at next : ℕ) (m : ℕ) → kind_of_number u optional d w at next o ≡ Ok (None, m) → (j : Kind) × (o ≡ Some j) × (((optional && same_kind j Null) ≡ true) × (next ≡ m))
-numbered_absent None u optional d w at next m e = absurd cc
-numbered_absent (Some j) u optional d w at next m e = (j, refl, chose_absent (optional && same_kind j Null) u d w at next j m e)
-
--- a kind that is read stands in the table
-kind_has : (r : Range) (n : ℕ) (k : Kind) → slice_get r.tables.kinds n ≡ Some k → has_atom r.tables (atom.kind k) ≡ true
-kind_has r n k is = any_at (λ j. same_kind j k) r.tables.kinds n k is (same_kind_self k)
-
--- a kind is spelled by its number
-kind_here : (r : Range) (n : ℕ) (k : Kind) → IsSound r → slice_get r.tables.kinds n ≡ Some k → kind_place r.tables k ≡ n
-kind_here r n k sound is = ap (λ (o : Option ℕ). unwrap_or o (length r.tables.kinds)) (place_of_at r.tables.kinds k n sound.kinds is)
-
-spelled_as : (r : Range) (at n next m p : ℕ) → m ≡ n → next ≡ p → left r at ≡ varnum n ++ left r next → left r at ≡ varnum m ++ left r p
-spelled_as r at n next m p same on e = e ∙ ap (λ (k : ℕ). varnum k ++ left r next) (sym same) ∙ ap (λ (k : ℕ). varnum m ++ left r k) on
-
-pub record KindStands (r : Range) (u : Union) (d : ℕ) (w : Bool) (at : ℕ) (k : Kind) (m : ℕ) : Type 0 where
-  pub spelled : left r at ≡ varnum (kind_place r.tables k) ++ left r m
-  pub allowed : allowed u k ≡ true
-  pub plain : (w && has_lazy k) ≡ false
-  pub shallow : (counted k && ltb 512 d) ≡ false
-  pub has : has_atom r.tables (atom.kind k) ≡ true
-
-pub kind_stands : (r : Range) (u : Union) (optional : Bool) (d : ℕ) (w : Bool) (at : ℕ) (k : Kind) (m : ℕ) → IsSound r → at ≤ r.end → kind_at r u optional d w at ≡ Ok (Some k, m) → KindStands r u d w at k m
-unfolding kind_at
-kind_stands r u optional d w at k m sound order e =
-    let b = bind_ok (number_from r at) (λ n. kind_of_number u optional d w at n.1 (slice_get r.tables.kinds n.0)) (Some k, m) e in
-    let j = numbered_kind (slice_get r.tables.kinds b.0.0) u optional d w at b.0.1 k m b.2 in
-    let place : kind_place r.tables k ≡ b.0.0 = ap (kind_place r.tables) (sym j.2.same) ∙ kind_here r b.0.0 j.0 sound j.1 in
-    record { spelled = spelled_as r at b.0.0 b.0.1 (kind_place r.tables k) m place j.2.place (number_spells r at b.0 sound order b.1).front; allowed = j.2.allowed; plain = j.2.plain; shallow = j.2.shallow; has = ap (λ (i : Kind). has_atom r.tables (atom.kind i)) (sym j.2.same) ∙ kind_has r b.0.0 j.0 j.1 }
-
-pub absent_stands : (r : Range) (u : Union) (optional : Bool) (d : ℕ) (w : Bool) (at m : ℕ) → IsSound r → at ≤ r.end → kind_at r u optional d w at ≡ Ok (None, m) → (left r at ≡ varnum (kind_place r.tables Null) ++ left r m) × (optional ≡ true) × (has_atom r.tables (atom.kind Null) ≡ true)
-unfolding kind_at
-absent_stands r u optional d w at m sound order e =
-    let b = bind_ok (number_from r at) (λ n. kind_of_number u optional d w at n.1 (slice_get r.tables.kinds n.0)) (None, m) e in
-    let j = numbered_absent (slice_get r.tables.kinds b.0.0) u optional d w at b.0.1 m b.2 in
-    let null : j.0 ≡ Null = same_kind_true j.0 Null (and_second optional (same_kind j.0 Null) j.2.0) in
-    let place : kind_place r.tables Null ≡ b.0.0 = ap (kind_place r.tables) (sym null) ∙ kind_here r b.0.0 j.0 sound j.1 in
-    (spelled_as r at b.0.0 b.0.1 (kind_place r.tables Null) m place j.2.1 (number_spells r at b.0 sound order b.1).front, and_first optional (same_kind j.0 Null) j.2.0, ap (λ (i : Kind). has_atom r.tables (atom.kind i)) (sym null) ∙ kind_has r b.0.0 j.0 j.1)
+use Rattle.tree_decoder.proofs.Machine.{from_step, from_fails, atom_moves, count_stands, kind_stands}
+use Rattle.tree_decoder.proofs.Single.{leaf_atom, leaf_stands, is_ok}
 
 -- ---- nodes
 
@@ -155,9 +70,8 @@ node_goes r u optional d w at k m ds sound order e = from_step r (due (item_type
 
 pub node_found : (r : Range) (u : Union) (optional : Bool) (d : ℕ) (w : Bool) (at : ℕ) (k : Kind) (m : ℕ) (ds : Data) (next : ℕ) → IsSound r → at ≤ r.end → d ≤ 513 → kind_at r u optional d w at ≡ Ok (Some k, m) → Run r (fields k) (below k d) w m ds next → Found r (item_type u optional) d w at (child (branch k ds)) next
 node_found r u optional d w at k m ds next sound order small e run =
-    let st = kind_stands r u optional d w at k m sound order e in
-    let mv = kind_moves r u optional d w at (Some k, m) sound order e in
-    let p = mv.forward in let q = run.forward in
+    let st = kind_stands r u optional d w at (Some k, m) sound order e in
+    let p = st.forward in let q = run.forward in
     record {
       goes_on = λ es. node_goes r u optional d w at (Some k) m es sound order e ∙ run.goes_on es;
       spelled =
@@ -165,8 +79,8 @@ node_found r u optional d w at k m ds next sound order small e run =
           ∙ ap (λ (b : List ℕ). varnum (kind_place r.tables k) ++ b) run.spelled
           ∙ sym (append_assoc (varnum (kind_place r.tables k)) (spelled_fields r.tables (held r) (fields k) ds) (left r next))
           ∙ ap (λ (b : List ℕ). b ++ left r next) (sym (framed_item u optional (spelled r.tables (held r) (branch k ds))));
-      fits = fits_child u optional (branch k ds) st.allowed run.fits;
-      depth = depth_of_node (counted k) (ltb 512 d) d (depth_in ds) st.shallow (λ b. ltb-false _ _ b) small run.depth;
+      fits = fits_child u optional (branch k ds) st.may.0 run.fits;
+      depth = depth_of_node (counted k) (ltb 512 d) d (depth_in ds) st.may.2 (λ b. ltb-false _ _ b) small run.depth;
       stands = run.stands;
       has_all = both (has_atom r.tables (atom.kind k)) (list_all (has_atom r.tables) (atoms_of_fields (held r) (fields k) ds)) st.has run.has_all;
       folded = both (is_folded (item_type u optional) (child (branch k ds))) (folded_fields (fields k) ds) (plain_item u optional (child (branch k ds))) run.folded;
@@ -176,18 +90,17 @@ node_found r u optional d w at k m ds next sound order small e run =
 
 pub absent_found : (r : Range) (u : Union) (optional : Bool) (d : ℕ) (w : Bool) (at m : ℕ) → IsSound r → at ≤ r.end → d ≤ 513 → kind_at r u optional d w at ≡ Ok (None, m) → Found r (item_type u optional) d w at absent m
 absent_found r u optional d w at m sound order small e =
-    let st = absent_stands r u optional d w at m sound order e in
-    let mv = kind_moves r u optional d w at (None, m) sound order e in
+    let st = kind_stands r u optional d w at (None, m) sound order e in
     record {
       goes_on = λ es. node_goes r u optional d w at None m es sound order e;
-      spelled = st.0 ∙ ap (λ (b : List ℕ). b ++ left r m) (sym (framed_item u optional (varnum (kind_place r.tables Null))));
-      fits = fits_absent u optional st.1;
+      spelled = st.spelled ∙ ap (λ (b : List ℕ). b ++ left r m) (sym (framed_item u optional (varnum (kind_place r.tables Null))));
+      fits = fits_absent u optional st.may;
       depth = omega arith;
       stands = refl;
-      has_all = both (has_atom r.tables (atom.kind Null)) true st.2 refl;
+      has_all = both (has_atom r.tables (atom.kind Null)) true st.has refl;
       folded = both (is_folded (item_type u optional) absent) true (plain_item u optional absent) refl;
-      forward = mv.forward;
-      within = mv.within;
+      forward = st.forward;
+      within = st.within;
     }
 
 -- the node of fields that fit and are not too deep is made
@@ -278,19 +191,6 @@ pub length_times : (n : ℕ) (t : FieldType) → length (times n t) ≡ n
 length_times zero t = refl
 length_times (suc n) t = ap suc (length_times n t)
 
-pub record CountStands (r : Range) (filled : Bool) (at n m : ℕ) : Type 0 where
-  pub spelled : left r at ≡ varnum n ++ left r m
-  pub enough : (filled && eqb n 0) ≡ false
-
-pub count_stands : (r : Range) (filled : Bool) (at n m : ℕ) → IsSound r → at ≤ r.end → count_at r filled at ≡ Ok (n, m) → CountStands r filled at n m
-unfolding count_at
-count_stands r filled at n m sound order e =
-    let b = bind_ok (number_from r at) (λ x. cond (filled && eqb x.0 0) (Err (fault at EmptyList)) (Ok x)) (n, m) e in
-    let g = guard_ok (filled && eqb b.0.0 0) (fault at EmptyList) (Ok b.0) (n, m) b.2 in
-    let is : b.0 ≡ (n, m) = ok_is _ _ g.1 in
-    let sp = (number_spells r at b.0 sound order b.1).front in
-    subst (λ (x : ℕ × ℕ). CountStands r filled at x.0 x.1) is (record { spelled = sp; enough = g.0 })
-
 pub list_fits : (filled : Bool) (n : ℕ) (t : FieldType) (ds : Data) → (filled && eqb n 0) ≡ false → fit (times n t) ds ≡ true → (not filled || not (is_none ds)) ≡ true
 list_fits false n t ds e f = refl
 list_fits true n t (more d ds) e f = refl
@@ -299,9 +199,8 @@ list_fits true (suc n) t none e f = cc
 
 pub list_found : (r : Range) (u : Union) (holes filled : Bool) (d : ℕ) (w : Bool) (at n m : ℕ) (ds : Data) (next : ℕ) → IsSound r → at ≤ r.end → count_at r filled at ≡ Ok (n, m) → Run r (times n (item_type u holes)) d w m ds next → Found r (field.List u holes filled) d w at (listed ds) next
 list_found r u holes filled d w at n m ds next sound order e run =
-    let st = count_stands r filled at n m sound order e in
-    let mv = count_moves r filled at (n, m) sound order e in
-    let p = mv.forward in let q = run.forward in
+    let st = count_stands r filled at (n, m) sound order e in
+    let p = st.forward in let q = run.forward in
     let many : count ds ≡ n = count_fit (times n (item_type u holes)) ds run.fits ∙ length_times n (item_type u holes) in
     let bytes : spelled_fields r.tables (held r) (times n (item_type u holes)) ds ≡ spelled_items r.tables (held r) ds = spelled_times r.tables (held r) n u holes ds run.fits in
     record {
@@ -339,6 +238,9 @@ leaf_found r t d w at x sound order small leaf e =
     }
 
 -- ---- what the code makes of a node
+
+pub kind_read : (q : Result (Option Kind × ℕ) FormatFault) (x : Option Kind × ℕ) (o : Option Kind) → is_ok x ≡ q → x.0 ≡ o → q ≡ is_ok (o, x.1)
+kind_read q x o read is = sym read ∙ ap (λ (p : Option Kind). is_ok (p, x.1)) is
 
 bounds_of : (c b : Bool) (d : ℕ) → 1 ≤ d → d ≤ 513 → (c && b) ≡ false → (b ≡ false → d ≤ 512) → (1 ≤ cond c (d + 1) d) × (cond c (d + 1) d ≤ 513)
 bounds_of true b d one small e h = let k : d ≤ 512 = h e in (omega arith, omega arith)

@@ -1,6 +1,5 @@
 -- The machine takes the longest row of atoms, and answers the cause for the first due behind it.
-use Rattle.std.proofs.Common.{ℕ, zero, suc, ◌+◌, ◌-◌, ◌<◌, ◌≤◌, ◌≡◌, Bool, true, false, get_or, List, [], ◌∷◌, ◌++◌, Option, Some, None, Result, Ok, Err, refl, sym, ap, ◌∙◌, arith, append-nil}
-use Rattle.bast_base.specs.declared.errors.FormatFault.{FormatFault}
+use Rattle.std.proofs.Common.{ℕ, ◌≤◌, ◌≡◌, Bool, true, false, get_or, List, [], ◌∷◌, ◌++◌, Option, Some, None, Ok, refl, sym, ap, ◌∙◌, append-nil}
 use Rattle.bast_schema.specs.declared.kind.FieldType.{FieldType}
 use Rattle.bast_schema.specs.declared.kind.FieldType.TheVariants as field
 use Rattle.bast_schema.specs.declared.kind.Kind.{Kind}
@@ -15,18 +14,17 @@ use Rattle.container.specs.Atoms.{Atom, atoms_of}
 use Rattle.bast_schema.specs.Eager.{is_eager_at}
 use Rattle.container.specs.Spelled.{framed, spelled_at}
 use Rattle.container.specs.Tables.{Tables}
-use Rattle.tree_decoder.specs.Dues.{Due, due, dues, times, children, Taken, taken, atom_of, atom_at}
+use Rattle.tree_decoder.specs.Dues.{Due, due, dues, times, children, Taken, taken, atom_of}
 use Rattle.container.specs.Folded.{is_folded, folded_at}
 use Rattle.tree_decoder.specs.Left.{puts, then_left, dues_left}
 use Rattle.tree_decoder.specs.Numbers.{kind_at, count_at, leaf_at, is_leaf}
-use Rattle.tree_decoder.specs.Outcome.{after, go, outcome_from}
+use Rattle.tree_decoder.specs.Outcome.{outcome_from}
 use Rattle.tree_decoder.specs.Range.{Range, IsSound, held, left}
 use Rattle.container.specs.SpelledAtom.{spelled_atom}
 use Rattle.tree_decoder.specs.Row.{Longest, here, and_then}
 use Rattle.tree_decoder.specs.Windows.{windows_at}
 use Rattle.tree_decoder.proofs.Spelling.{left_at, puts_kind}
-use Rattle.tree_decoder.proofs.Machine.{atom_cases, atom_moves}
-use Rattle.tree_decoder.proofs.Nodes.{absent_stands, count_stands, kind_stands}
+use Rattle.tree_decoder.proofs.Machine.{atom_cases, count_stands, kind_stands, outcome_by}
 use Rattle.tree_decoder.proofs.Single.{leaf_stands}
 use Rattle.tree_decoder.proofs.Whole.{named_at_where_stands}
 
@@ -44,15 +42,15 @@ absent_puts u false d w is = absurd cc
 
 node_step : (r : Range) (u : Union) (optional : Bool) (d : ℕ) (w : Bool) (at : ℕ) (o : Option Kind) (m : ℕ) → IsSound r → at ≤ r.end → kind_at r u optional d w at ≡ Ok (o, m) → Step r (item_type u optional) d w at (taken (children o d w) [] m)
 node_step r u optional d w at (Some k) m sound order e =
-    let k-stands = kind_stands r u optional d w at k m sound order e in
-    record { atom = atom.kind k; spelled = k-stands.spelled; puts = puts_kind u optional k d w k-stands.allowed k-stands.plain }
+    let k-stands = kind_stands r u optional d w at (Some k, m) sound order e in
+    record { atom = atom.kind k; spelled = k-stands.spelled; puts = puts_kind u optional k d w k-stands.may.0 k-stands.may.1 }
 node_step r u optional d w at None m sound order e =
-    let none-stands = absent_stands r u optional d w at m sound order e in
-    record { atom = atom.kind Null; spelled = none-stands.0; puts = absent_puts u optional d w none-stands.1 }
+    let none-stands = kind_stands r u optional d w at (None, m) sound order e in
+    record { atom = atom.kind Null; spelled = none-stands.spelled; puts = absent_puts u optional d w none-stands.may }
 
 list_step : (r : Range) (u : Union) (holes filled : Bool) (d : ℕ) (w : Bool) (at n m : ℕ) → IsSound r → at ≤ r.end → count_at r filled at ≡ Ok (n, m) → Step r (field.List u holes filled) d w at (taken (dues (times n (item_type u holes)) d w) [] m)
 list_step r u holes filled d w at n m sound order e =
-    let n-stands = count_stands r filled at n m sound order e in
+    let n-stands = count_stands r filled at (n, m) sound order e in
     record { atom = atom.count n; spelled = n-stands.spelled; puts = rw n-stands.enough refl }
 
 nothing_put : (o : Option (List Due)) → then_left (λ es. dues_left es []) [] o ≡ Some [] → o ≡ Some []
@@ -98,33 +96,20 @@ atom_step r t d w at y sound order e =
 
 -- ---- the row
 
--- the rows from each place on that lies ahead
-abbrev Ahead : Range → ℕ → Type 0
-Ahead r n = (ds : List Due) (at : ℕ) → at ≤ r.end → r.end + 1 ≤ n + at → Longest r ds at (go r n ds at).fault
-
-longest_after : (r : Range) (n : ℕ) (x : Due) (ds : List Due) (at : ℕ) (m : Result Taken FormatFault) → atom_at r x at ≡ m → IsSound r → at ≤ r.end → r.end + 1 ≤ suc n + at → Ahead r n → Longest r (x ∷ ds) at (after (go r n) ds m).fault
-longest_after r n x ds at (Err f) is sound order enough ahead =
-    record { atoms = []; rest = x ∷ ds; place = at; row = here (x ∷ ds) at; due = refl; stops = (f, is, refl) }
-longest_after r n x ds at (Ok y) is sound order enough ahead =
-    let moves = atom_moves r x.type x.depth x.inside at y sound order is in
-    let step = atom_step r x.type x.depth x.inside at y sound order is in
-    let on : at < y.next = moves.forward in
-    let others = ahead (y.puts ++ ds) y.next moves.within (omega arith) in
-    record {
-      atoms = step.atom ∷ others.atoms;
-      rest = others.rest;
-      place = others.place;
-      row = and_then x ds at step.atom y others.atoms others.rest others.place (record { taken = is; spelled = step.spelled; puts = step.puts }) others.row;
-      due = ap (then_left (λ es. dues_left es others.atoms) ds) step.puts ∙ others.due;
-      stops = others.stops;
-    }
-
-longest : (r : Range) (n : ℕ) → IsSound r → Ahead r n
-longest r zero sound [] at order enough = record { atoms = []; rest = []; place = at; row = here [] at; due = refl; stops = refl }
-longest r (suc n) sound [] at order enough = record { atoms = []; rest = []; place = at; row = here [] at; due = refl; stops = refl }
-longest r zero sound (x ∷ ds) at order enough = absurd (omega arith)
-longest r (suc n) sound (x ∷ ds) at order enough = longest_after r n x ds at (atom_at r x at) refl sound order enough (longest r n sound)
-
 pub first_behind_row : (r : Range) (ds : List Due) (at : ℕ) → IsSound r → at ≤ r.end → Longest r ds at (outcome_from r ds at).fault
-unfolding outcome_from
-first_behind_row r ds at sound order = longest r (r.end + 1 - at) sound ds at order (omega arith)
+first_behind_row r ds at sound order =
+    outcome_by r (λ es to o. Longest r es to o.fault) sound
+    (record {
+      nothing = λ to le. record { atoms = []; rest = []; place = to; row = here [] to; due = refl; stops = refl };
+      fails = λ x es to f le is. record { atoms = []; rest = x ∷ es; place = to; row = here (x ∷ es) to; due = refl; stops = (f, is, refl) };
+      goes = λ x es to y o le is others.
+          (let step = atom_step r x.type x.depth x.inside to y sound le is in
+          record {
+            atoms = step.atom ∷ others.atoms;
+            rest = others.rest;
+            place = others.place;
+            row = and_then x es to step.atom y others.atoms others.rest others.place (record { taken = is; spelled = step.spelled; puts = step.puts }) others.row;
+            due = ap (then_left (λ ds. dues_left ds others.atoms) es) step.puts ∙ others.due;
+            stops = others.stops;
+          });
+    }) ds at order

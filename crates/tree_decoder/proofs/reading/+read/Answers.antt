@@ -1,10 +1,8 @@
-use Rattle.std.proofs.Common.{arith, sym, subst, ◌≡◌, ◌≤◌, ◌<◌, ℕ, List, Option, Some, None, Result, Ok}
+use Rattle.std.proofs.Common.{arith, sym, subst, ◌≡◌, ◌≤◌, ◌<◌, ℕ, List, Some}
 use Rattle.std.proofs.lemmas.List.{take_all, take_more}
 use Rattle.std.proofs.lemmas.Result.{err_from_is_err_and}
-use Rattle.bast_base.specs.declared.errors.FormatFault.{FormatFault}
 use Rattle.bast_schema.specs.declared.kind.FieldType.{FieldType}
 use Rattle.bast_schema.specs.declared.kind.FieldType.TheVariants as field
-use Rattle.bast_schema.specs.declared.kind.Kind.{Kind}
 use Rattle.bast_schema.specs.declared.kind.Union.TheVariants.{Body}
 use Rattle.bast_schema.specs.Fields.{fields}
 use Rattle.bast_schema.specs.Made.{node_of}
@@ -12,16 +10,12 @@ use Rattle.bast_schema.specs.Tree.{Tree, branch, child, item_type}
 use Rattle.bast_schema.specs.View.{data_of}
 use Rattle.tree_decoder.specs.Dues.{below, dues, times}
 use Rattle.tree_decoder.specs.Found.{Found, Run, Fails, Spent, SpentFails}
-use Rattle.tree_decoder.specs.Numbers.{kind_at}
 use Rattle.tree_decoder.specs.Range.{range_of}
 use Rattle.tree_decoder.specs.Windows.{windows, windows_in}
-use Rattle.tree_decoder.proofs.Machine.{kind_moves, count_moves}
-use Rattle.tree_decoder.proofs.Nodes.{kind_stands, node_found, absent_found, node_made, atom_fails, atom_spends, rest_fails, rest_spends, kind_atom, count_atom, spent_node, list_found, below_bounds, node_is, no_fault}
+use Rattle.tree_decoder.proofs.Machine.{kind_stands, count_stands}
+use Rattle.tree_decoder.proofs.Nodes.{kind_read, node_found, absent_found, node_made, atom_fails, atom_spends, rest_fails, rest_spends, kind_atom, count_atom, spent_node, list_found, below_bounds, node_is, no_fault}
 use Rattle.tree_decoder.proofs.Runs.{chain_more, chain_run, chain_times, fails_at, spends_at, spent_more, stops_at, take_split, times_at}
 use Rattle.tree_decoder.proofs.reading.+read.Goals as goal
-
-abbrev stands_as : Option Kind × ℕ → Result (Option Kind × ℕ) FormatFault
-stands_as x = Ok x
 
 -- ---- fields
 
@@ -114,7 +108,7 @@ list-returns-in-Err-clause-spends g t c = atom_spends (range_of c.args.input.now
 
 pub list-items-requires : goal.list-items-requires
 list-items-requires g t c κs lives =
-    let mv = count_moves (range_of c.args.input.now) c.args.filled c.args.at c.in-Ok.found c.requires.sound c.requires.at (sym c.in-Ok.ensures.is) in
+    let mv = count_stands (range_of c.args.input.now) c.args.filled c.args.at c.in-Ok.found c.requires.sound c.requires.at (sym c.in-Ok.ensures.is) in
     let forward : c.args.at < c.in-Ok.found.1 = mv.forward in
     let within : c.in-Ok.found.1 ≤ c.args.input.now.end = mv.within in
     (omega arith, (lives, (c.requires.sound, (within, c.requires.depth))))
@@ -135,7 +129,7 @@ list-returns-clause-reads g t c =
 
 pub list-returns-clause-spends : goal.list-returns-clause-spends
 list-returns-clause-spends g t c =
-    let mv = count_moves (range_of c.args.input.now) c.args.filled c.args.at c.in-Ok.found c.requires.sound c.requires.at (sym c.in-Ok.ensures.is) in
+    let mv = count_stands (range_of c.args.input.now) c.args.filled c.args.at c.in-Ok.found c.requires.sound c.requires.at (sym c.in-Ok.ensures.is) in
     let forward : c.args.at < c.in-Ok.found.1 = mv.forward in
     rw c.of.ensures (spent_node (windows_in (data_of c.in_ok-values.values.items)) c.args.at c.in-Ok.found.1 c.in_ok-values.next c.args.steps.now c.item_count.new.steps c.items.new.steps (omega arith) c.in_ok-values.ensures.reads.forward c.in-Ok.ensures.cost c.in_ok-values.ensures.spends)
 
@@ -149,43 +143,42 @@ node-returns-in-Err-clause-spends g t c = atom_spends (range_of c.args.input.now
 
 pub node-returns-in_default-clause-reads : goal.node-returns-in_default-clause-reads
 node-returns-in_default-clause-reads g t c =
-    let e : kind_at (range_of c.args.input.now) c.args.union c.args.optional c.args.depth c.args.inside c.args.at ≡ stands_as (None, c.in-Ok.found.1) = subst (λ (o : Option Kind). kind_at (range_of c.args.input.now) c.args.union c.args.optional c.args.depth c.args.inside c.args.at ≡ stands_as (o, c.in-Ok.found.1)) c.in_default.is (sym c.in-Ok.ensures.is) in
+    let e = kind_read _ c.in-Ok.found _ c.in-Ok.ensures.is c.in_default.is in
     absent_found (range_of c.args.input.now) c.args.union c.args.optional c.args.depth c.args.inside c.args.at c.in-Ok.found.1 c.requires.sound c.requires.at c.requires.depth.1 e
 
 pub node-fields-requires : goal.node-fields-requires
 node-fields-requires g t c κs lives =
-    let e : kind_at (range_of c.args.input.now) c.args.union c.args.optional c.args.depth c.args.inside c.args.at ≡ stands_as (Some c.in-Some.kind, c.in-Ok.found.1) = subst (λ (o : Option Kind). kind_at (range_of c.args.input.now) c.args.union c.args.optional c.args.depth c.args.inside c.args.at ≡ stands_as (o, c.in-Ok.found.1)) c.in-Some.is (sym c.in-Ok.ensures.is) in
-    let st = kind_stands (range_of c.args.input.now) c.args.union c.args.optional c.args.depth c.args.inside c.args.at c.in-Some.kind c.in-Ok.found.1 c.requires.sound c.requires.at e in
-    let mv = kind_moves (range_of c.args.input.now) c.args.union c.args.optional c.args.depth c.args.inside c.args.at (Some c.in-Some.kind, c.in-Ok.found.1) c.requires.sound c.requires.at e in
+    let e = kind_read _ c.in-Ok.found _ c.in-Ok.ensures.is c.in-Some.is in
+    let mv = kind_stands (range_of c.args.input.now) c.args.union c.args.optional c.args.depth c.args.inside c.args.at (Some c.in-Some.kind, c.in-Ok.found.1) c.requires.sound c.requires.at e in
     let forward : c.args.at < c.in-Ok.found.1 = mv.forward in
     let within : c.in-Ok.found.1 ≤ c.args.input.now.end = mv.within in
-    let bounds = below_bounds c.in-Some.kind c.args.depth c.requires.depth.0 c.requires.depth.1 st.shallow in
+    let bounds = below_bounds c.in-Some.kind c.args.depth c.requires.depth.0 c.requires.depth.1 mv.may.2 in
     (omega arith, (lives, (c.requires.sound, (within, rw c.depth_below-below.ensures bounds))))
 
 pub node-returns-in_err-fields-clause-reads : goal.node-returns-in_err-fields-clause-reads
 node-returns-in_err-fields-clause-reads g t c =
-    let e : kind_at (range_of c.args.input.now) c.args.union c.args.optional c.args.depth c.args.inside c.args.at ≡ stands_as (Some c.in-Some.kind, c.in-Ok.found.1) = subst (λ (o : Option Kind). kind_at (range_of c.args.input.now) c.args.union c.args.optional c.args.depth c.args.inside c.args.at ≡ stands_as (o, c.in-Ok.found.1)) c.in-Some.is (sym c.in-Ok.ensures.is) in
+    let e = kind_read _ c.in-Ok.found _ c.in-Ok.ensures.is c.in-Some.is in
     let q = err_from_is_err_and c.from_residual.result c.from_residual.ensures.1 in
     let f = subst (λ (n : ℕ). Fails (range_of c.args.input.now) (dues (fields c.in-Some.kind) n c.args.inside) c.in-Ok.found.1 c.in_err-fields.field-0.0) c.depth_below-below.ensures (subst (λ (ts : List FieldType). Fails (range_of c.args.input.now) (dues ts c.depth_below-below.result c.args.inside) c.in-Ok.found.1 c.in_err-fields.field-0.0) c.fields_of.ensures.is c.in_err-fields.ensures.reads) in
     rw (q.1, q.2) (rest_fails (range_of c.args.input.now) (item_type c.args.union c.args.optional) c.args.depth c.args.inside c.args.at (dues (fields c.in-Some.kind) (below c.in-Some.kind c.args.depth) c.args.inside) c.in-Ok.found.1 c.in_err-fields.field-0.0 c.requires.sound c.requires.at (kind_atom (range_of c.args.input.now) c.args.union c.args.optional c.args.depth c.args.inside c.args.at _ e) f)
 
 pub node-returns-in_err-fields-clause-spends : goal.node-returns-in_err-fields-clause-spends
 node-returns-in_err-fields-clause-spends g t c =
-    let e : kind_at (range_of c.args.input.now) c.args.union c.args.optional c.args.depth c.args.inside c.args.at ≡ stands_as (Some c.in-Some.kind, c.in-Ok.found.1) = subst (λ (o : Option Kind). kind_at (range_of c.args.input.now) c.args.union c.args.optional c.args.depth c.args.inside c.args.at ≡ stands_as (o, c.in-Ok.found.1)) c.in-Some.is (sym c.in-Ok.ensures.is) in
+    let e = kind_read _ c.in-Ok.found _ c.in-Ok.ensures.is c.in-Some.is in
     let q = err_from_is_err_and c.from_residual.result c.from_residual.ensures.1 in
     let f = subst (λ (n : ℕ). SpentFails (range_of c.args.input.now) (dues (fields c.in-Some.kind) n c.args.inside) c.in-Ok.found.1 c.node_kind.new.steps c.fields.new.steps) c.depth_below-below.ensures (subst (λ (ts : List FieldType). SpentFails (range_of c.args.input.now) (dues ts c.depth_below-below.result c.args.inside) c.in-Ok.found.1 c.node_kind.new.steps c.fields.new.steps) c.fields_of.ensures.is c.in_err-fields.ensures.spends) in
     rw q.1 (rest_spends (range_of c.args.input.now) (item_type c.args.union c.args.optional) c.args.depth c.args.inside c.args.at (dues (fields c.in-Some.kind) (below c.in-Some.kind c.args.depth) c.args.inside) c.in-Ok.found.1 c.args.steps.now c.node_kind.new.steps c.fields.new.steps c.requires.sound c.requires.at (kind_atom (range_of c.args.input.now) c.args.union c.args.optional c.args.depth c.args.inside c.args.at _ e) c.in-Ok.ensures.cost f)
 
 pub node-unreachable-requires : goal.node-unreachable-requires
 node-unreachable-requires g t c =
-    let e : kind_at (range_of c.args.input.now) c.args.union c.args.optional c.args.depth c.args.inside c.args.at ≡ stands_as (Some c.in-Some.kind, c.in-Ok.found.1) = subst (λ (o : Option Kind). kind_at (range_of c.args.input.now) c.args.union c.args.optional c.args.depth c.args.inside c.args.at ≡ stands_as (o, c.in-Ok.found.1)) c.in-Some.is (sym c.in-Ok.ensures.is) in
+    let e = kind_read _ c.in-Ok.found _ c.in-Ok.ensures.is c.in-Some.is in
     let ds = data_of c.in_ok-fields.fields.items in
     let run = subst (λ (n : ℕ). Run (range_of c.args.input.now) (fields c.in-Some.kind) n c.args.inside c.in-Ok.found.1 (data_of c.in_ok-fields.fields.items) c.in_ok-fields.next) c.depth_below-below.ensures (subst (λ (ts : List FieldType). Run (range_of c.args.input.now) ts c.depth_below-below.result c.args.inside c.in-Ok.found.1 (data_of c.in_ok-fields.fields.items) c.in_ok-fields.next) c.fields_of.ensures.is c.in_ok-fields.ensures.reads) in
     no_fault c.in-Err-new.field-0 (branch c.in-Some.kind ds) (node_of c.in-Some.kind ds) c.in-Err-new.ensures (node_made (range_of c.args.input.now) c.args.union c.args.optional c.args.depth c.args.inside c.args.at c.in-Some.kind c.in-Ok.found.1 ds c.in_ok-fields.next c.requires.sound c.requires.at c.requires.depth.0 c.requires.depth.1 e run)
 
 pub node-returns-clause-reads : goal.node-returns-clause-reads
 node-returns-clause-reads g t c =
-    let e : kind_at (range_of c.args.input.now) c.args.union c.args.optional c.args.depth c.args.inside c.args.at ≡ stands_as (Some c.in-Some.kind, c.in-Ok.found.1) = subst (λ (o : Option Kind). kind_at (range_of c.args.input.now) c.args.union c.args.optional c.args.depth c.args.inside c.args.at ≡ stands_as (o, c.in-Ok.found.1)) c.in-Some.is (sym c.in-Ok.ensures.is) in
+    let e = kind_read _ c.in-Ok.found _ c.in-Ok.ensures.is c.in-Some.is in
     let ds = data_of c.in_ok-fields.fields.items in
     let run = subst (λ (n : ℕ). Run (range_of c.args.input.now) (fields c.in-Some.kind) n c.args.inside c.in-Ok.found.1 (data_of c.in_ok-fields.fields.items) c.in_ok-fields.next) c.depth_below-below.ensures (subst (λ (ts : List FieldType). Run (range_of c.args.input.now) ts c.depth_below-below.result c.args.inside c.in-Ok.found.1 (data_of c.in_ok-fields.fields.items) c.in_ok-fields.next) c.fields_of.ensures.is c.in_ok-fields.ensures.reads) in
     let made = node_made (range_of c.args.input.now) c.args.union c.args.optional c.args.depth c.args.inside c.args.at c.in-Some.kind c.in-Ok.found.1 ds c.in_ok-fields.next c.requires.sound c.requires.at c.requires.depth.0 c.requires.depth.1 e run in
@@ -195,12 +188,12 @@ node-returns-clause-reads g t c =
 
 pub node-returns-clause-spends : goal.node-returns-clause-spends
 node-returns-clause-spends g t c =
-    let e : kind_at (range_of c.args.input.now) c.args.union c.args.optional c.args.depth c.args.inside c.args.at ≡ stands_as (Some c.in-Some.kind, c.in-Ok.found.1) = subst (λ (o : Option Kind). kind_at (range_of c.args.input.now) c.args.union c.args.optional c.args.depth c.args.inside c.args.at ≡ stands_as (o, c.in-Ok.found.1)) c.in-Some.is (sym c.in-Ok.ensures.is) in
+    let e = kind_read _ c.in-Ok.found _ c.in-Ok.ensures.is c.in-Some.is in
     let ds = data_of c.in_ok-fields.fields.items in
     let run = subst (λ (n : ℕ). Run (range_of c.args.input.now) (fields c.in-Some.kind) n c.args.inside c.in-Ok.found.1 (data_of c.in_ok-fields.fields.items) c.in_ok-fields.next) c.depth_below-below.ensures (subst (λ (ts : List FieldType). Run (range_of c.args.input.now) ts c.depth_below-below.result c.args.inside c.in-Ok.found.1 (data_of c.in_ok-fields.fields.items) c.in_ok-fields.next) c.fields_of.ensures.is c.in_ok-fields.ensures.reads) in
     let made = node_made (range_of c.args.input.now) c.args.union c.args.optional c.args.depth c.args.inside c.args.at c.in-Some.kind c.in-Ok.found.1 ds c.in_ok-fields.next c.requires.sound c.requires.at c.requires.depth.0 c.requires.depth.1 e run in
     let same : c.in-Ok-new.node ≡ branch c.in-Some.kind ds = node_is c.in-Ok-new.node (branch c.in-Some.kind ds) (node_of c.in-Some.kind ds) c.in-Ok-new.ensures made in
-    let mv = kind_moves (range_of c.args.input.now) c.args.union c.args.optional c.args.depth c.args.inside c.args.at (Some c.in-Some.kind, c.in-Ok.found.1) c.requires.sound c.requires.at e in
+    let mv = kind_stands (range_of c.args.input.now) c.args.union c.args.optional c.args.depth c.args.inside c.args.at (Some c.in-Some.kind, c.in-Ok.found.1) c.requires.sound c.requires.at e in
     let forward : c.args.at < c.in-Ok.found.1 = mv.forward in
     subst (λ (x : Tree). Spent (windows x) c.args.at c.in_ok-fields.next c.args.steps.now c.fields.new.steps) (sym same)
     (spent_node (windows_in ds) c.args.at c.in-Ok.found.1 c.in_ok-fields.next c.args.steps.now c.node_kind.new.steps c.fields.new.steps (omega arith) run.forward c.in-Ok.ensures.cost c.in_ok-fields.ensures.spends)
