@@ -10,7 +10,7 @@ use Rattle.bast_schema.specs.declared.kind.Union.{Union}
 use Rattle.bast_schema.specs.declared.kind.Union.TheVariants.{Body}
 use Rattle.bast_schema.specs.Choices.{choice_texts, choice_of_text}
 use Rattle.bast_schema.specs.Fields.{fields}
-use Rattle.bast_schema.specs.Held.{Held, text_of, bytes_of}
+use Rattle.bast_schema.specs.Held.{Held, text_of}
 use Rattle.bast_schema.specs.Tree.{Tree, branch, Datum, child, absent, listed, flag, index, whole, name, no_name, choice, window, Data, none, more, typed, fits, fit, items_fit, item_type, is_none, count}
 use Rattle.bast_schema.specs.Unions.{allowed}
 use Rattle.bast_schema.proofs.Both.{and_first, and_second, both}
@@ -102,12 +102,6 @@ absent_apart u j xs ys never may e =
 
 -- ---- values with no parts
 
-text_same : (h g : Held) (n m : ℕ) (x y : List Atom) → atom.text (text_of h n) ∷ x ≡ atom.text (text_of g m) ∷ y → Alike h g (name n) (name m) x y
-text_same h g n m x y e =
-    let parts = first_same (atom.text (text_of h n)) (atom.text (text_of g m)) x y e in
-    let texts : atom.text (text_of h n) ≡ atom.text (text_of g m) = parts.0 in
-    record { same = cc; rest = parts.1 }
-
 -- a name with a text has the atom of no absent label
 label_apart : (o : Option (List ℕ)) (xs ys : List Atom) → is_some o ≡ true → atom.text o ∷ xs ≡ atom.text None ∷ ys → {A : Type 0} → A
 label_apart (Some words) xs ys is e = absurd cc
@@ -119,25 +113,6 @@ choice_same h g set n m x y p q e =
     let texts : atom.text (Some (get_or (choice_texts set) n [])) ≡ atom.text (Some (get_or (choice_texts set) m [])) = parts.0 in
     let words : get_or (choice_texts set) n [] ≡ get_or (choice_texts set) m [] = cc in
     record { same = ap choice (one_choice set n m p q words); rest = parts.1 }
-
-window_same : (h g : Held) (a b c d : ℕ) (x y : List Atom) → atom.window (bytes_of h a b) ∷ x ≡ atom.window (bytes_of g c d) ∷ y → Alike h g (window a b) (window c d) x y
-window_same h g a b c d x y e =
-    let parts = first_same (atom.window (bytes_of h a b)) (atom.window (bytes_of g c d)) x y e in
-    let bytes : atom.window (bytes_of h a b) ≡ atom.window (bytes_of g c d) = parts.0 in
-    record { same = cc; rest = parts.1 }
-
--- a window has the atom of no node
-window_apart : (bytes : List ℕ) (k : Kind) (xs ys : List Atom) → atom.window bytes ∷ xs ≡ atom.kind k ∷ ys → {A : Type 0} → A
-window_apart bytes k xs ys e = absurd cc
-
-flag_same : (h g : Held) (b c : Bool) (x y : List Atom) → atom.flag b ∷ x ≡ atom.flag c ∷ y → Alike h g (flag b) (flag c) x y
-flag_same h g b c x y e = record { same = cc; rest = cc }
-
-index_same : (h g : Held) (n m : ℕ) (x y : List Atom) → atom.index n ∷ x ≡ atom.index m ∷ y → Alike h g (index n) (index m) x y
-index_same h g n m x y e = record { same = cc; rest = cc }
-
-whole_same : (h g : Held) (n m : ℕ) (x y : List Atom) → atom.whole n ∷ x ≡ atom.whole m ∷ y → Alike h g (whole n) (whole m) x y
-whole_same h g n m x y e = record { same = cc; rest = cc }
 
 times_no_null : (n : ℕ) (t : FieldType) → no_null t ≡ true → list_all no_null (times n t) ≡ true
 times_no_null zero t never = refl
@@ -156,9 +131,9 @@ mutual
       absent_apart u j x (atoms_of_fields g (fields j) es ++ y) never (and_first (allowed u j) (fit (fields j) es) q) e
   value_alike h g (child (branch k ds)) (field.Optional u) absent x y never p q mv mo e =
       absent_apart u k y (atoms_of_fields h (fields k) ds ++ x) never (and_first (allowed u k) (fit (fields k) ds) p) (sym e)
-  value_alike h g (window a b) (field.Lazy u) (window c d) x y never p q mv mo e = window_same h g a b c d x y e
-  value_alike h g (window a b) (field.Lazy u) (child (branch j es)) x y never p q mv mo e = window_apart (bytes_of h a b) j x (atoms_of_fields g (fields j) es ++ y) e
-  value_alike h g (child (branch k ds)) (field.Lazy u) (window c d) x y never p q mv mo e = window_apart (bytes_of g c d) k y (atoms_of_fields h (fields k) ds ++ x) (sym e)
+  value_alike h g (window a b) (field.Lazy u) (window c d) x y never p q mv mo e = record { same = cc; rest = cc }
+  value_alike h g (window a b) (field.Lazy u) (child (branch j es)) x y never p q mv mo e = absurd cc
+  value_alike h g (child (branch k ds)) (field.Lazy u) (window c d) x y never p q mv mo e = absurd cc
   value_alike h g (listed ds) (field.List u holes filled) (listed es) x y never p q mv mo e =
       let parts = first_same (atom.count (count ds)) (atom.count (count es)) (atoms_of_items h ds ++ x) (atoms_of_items g es ++ y) e in
       let counts : atom.count (count ds) ≡ atom.count (count es) = parts.0 in
@@ -170,12 +145,12 @@ mutual
       let is = ap (λ (z : List Atom). z ++ x) (times_atoms h (count ds) u holes ds fit_ds) ∙ parts.1 ∙ ap (λ (z : List Atom). z ++ y) (sym (times_atoms g (count ds) u holes es fit_es)) in
       let items = fields_alike h g ds ts es x y (times_no_null (count ds) (item_type u holes) (item_no_null u holes never)) (record { fits = fit_ds; named = mv }) (record { fits = fit_es; named = mo }) is in
       record { same = items.same; rest = items.rest }
-  value_alike h g (flag b) field.Bool (flag c) x y never p q mv mo e = flag_same h g b c x y e
-  value_alike h g (index n) field.Index (index m) x y never p q mv mo e = index_same h g n m x y e
-  value_alike h g (whole n) field.Whole (whole m) x y never p q mv mo e = whole_same h g n m x y e
-  value_alike h g (name n) field.Text (name m) x y never p q mv mo e = text_same h g n m x y e
-  value_alike h g (name n) field.Name (name m) x y never p q mv mo e = text_same h g n m x y e
-  value_alike h g (name n) field.Label (name m) x y never p q mv mo e = text_same h g n m x y e
+  value_alike h g (flag b) field.Bool (flag c) x y never p q mv mo e = record { same = cc; rest = cc }
+  value_alike h g (index n) field.Index (index m) x y never p q mv mo e = record { same = cc; rest = cc }
+  value_alike h g (whole n) field.Whole (whole m) x y never p q mv mo e = record { same = cc; rest = cc }
+  value_alike h g (name n) field.Text (name m) x y never p q mv mo e = record { same = cc; rest = cc }
+  value_alike h g (name n) field.Name (name m) x y never p q mv mo e = record { same = cc; rest = cc }
+  value_alike h g (name n) field.Label (name m) x y never p q mv mo e = record { same = cc; rest = cc }
   value_alike h g no_name field.Label no_name x y never p q mv mo e = record { same = refl; rest = cc }
   value_alike h g (name n) field.Label no_name x y never p q mv mo e = label_apart (text_of h n) x y mv e
   value_alike h g no_name field.Label (name m) x y never p q mv mo e = label_apart (text_of g m) y x mo (sym e)

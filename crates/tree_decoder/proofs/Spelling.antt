@@ -137,7 +137,7 @@ fits_times u holes none e = refl
 fits_times u holes (more v vs) e =
     both (fits (item_type u holes) v) (fit (times (count vs) (item_type u holes)) vs) (and_first (fits (item_type u holes) v) (items_fit u holes vs) e) (fits_times u holes vs (and_second (fits (item_type u holes) v) (items_fit u holes vs) e))
 
-folded_times : (u : Union) (holes : Bool) (vs : Data) → folded_items vs ≡ true → folded_fields (times (count vs) (item_type u holes)) vs ≡ true
+pub folded_times : (u : Union) (holes : Bool) (vs : Data) → folded_items vs ≡ true → folded_fields (times (count vs) (item_type u holes)) vs ≡ true
 folded_times u holes none e = refl
 folded_times u holes (more v vs) e =
     both (is_folded (item_type u holes) v) (folded_at v && folded_fields (times (count vs) (item_type u holes)) vs) (plain_item u holes v)

@@ -6,16 +6,15 @@ use Rattle.std.proofs.lemmas.Option.{get_or_from_slice_get}
 use Rattle.bast_schema.specs.Counts.{is_whole, is_whole_at, is_whole_in, size}
 use Rattle.bast_schema.specs.Eager.{is_eager, is_eager_at, are_eager}
 use Rattle.bast_schema.specs.Held.{Held, text_of}
-use Rattle.bast_schema.specs.Tree.{Tree, branch, Datum, child, absent, listed, name, window, Data, none, more, typed, fits, fit, items_fit, item_type, is_none, kind_of, depth}
+use Rattle.bast_schema.specs.Tree.{Tree, branch, Datum, child, absent, listed, name, window, Data, none, more, typed, fits, fit, items_fit, item_type, is_none, kind_of, depth, count}
 use Rattle.bast_schema.specs.Unions.{allowed}
 use Rattle.bast_schema.proofs.Both.{and_first, and_second, both}
 use Rattle.container.specs.Atoms.{atoms}
 use Rattle.container.specs.InFile.{is_unnested}
 use Rattle.bast_schema.specs.declared.kind.FieldType.{FieldType}
 use Rattle.bast_schema.specs.declared.kind.FieldType.TheVariants as field
-use Rattle.bast_schema.specs.declared.kind.Union.{Union}
 use Rattle.bast_schema.specs.Fields.{fields, has_lazy, is_lazy_type}
-use Rattle.container.specs.Folded.{is_folded, folded, folded_at, folded_fields, folded_items}
+use Rattle.container.specs.Folded.{is_folded, folded, folded_at, folded_fields}
 use Rattle.tree_decoder.specs.Found.{is_text, stands, stands_at, all_stand, Found, Fails, Spent}
 use Rattle.tree_decoder.specs.Range.{Range, IsSound, held, left}
 use Rattle.tree_decoder.specs.SameTree.{IsSameTree}
@@ -25,7 +24,6 @@ use Rattle.container.specs.Spelled.{spelled}
 use Rattle.container.proofs.ByAtoms.{eager_is_unnested}
 use Rattle.container.proofs.SizeSpelled.{size_spelled}
 use Rattle.tree_decoder.specs.Spelt.{IsSpelt, NoFault}
-use Rattle.tree_decoder.proofs.Nodes.{plain_item}
 use Rattle.tree_decoder.proofs.OneTree.{one_eager_tree, one_folded_tree}
 use Rattle.tree_decoder.proofs.SameTree.{same_tree}
 use Rattle.tree_decoder.proofs.Single.{left_length}
@@ -35,11 +33,11 @@ use Rattle.bast_base.specs.declared.errors.Why.TheVariants.{Trailing}
 use Rattle.bast_schema.specs.declared.kind.Kind.TheVariants.{Script}
 use Rattle.bast_schema.specs.declared.kind.Union.TheVariants.{One}
 use Rattle.bast_schema.proofs.Typed.{allowed_one}
-use Rattle.tree_decoder.specs.Dues.{due}
+use Rattle.tree_decoder.specs.Dues.{due, times}
 use Rattle.container.specs.Answers.{fault}
 use Rattle.tree_decoder.specs.Outcome.{Outcome, behind, outcome_from}
 use Rattle.tree_decoder.specs.Windows.{windows, windows_at, skipped}
-use Rattle.tree_decoder.proofs.Spelling.{tree_accepted}
+use Rattle.tree_decoder.proofs.Spelling.{fits_times, folded_times, tree_accepted}
 use Rattle.tree_decoder.proofs.Machine.{trailing, all_read, skipped_both, skips_within}
 
 some_text : (r : Range) (n : ℕ) (o : Option (Option (List ℕ))) → slice_get r.tables.texts n ≡ o → is_text o ≡ true → is_some (text_of (held r) n) ≡ true
@@ -79,7 +77,9 @@ mutual
   eager_at (child c) (field.Lazy u) ok plain shut none_left = absurd cc
   eager_at (window from to) (field.Lazy u) ok plain shut none_left = absurd cc
   eager_at absent (field.Optional u) ok plain shut none_left = (refl, refl)
-  eager_at (listed ds) (field.List u holes filled) ok plain shut none_left = (refl, eager_items ds u holes (and_second (not filled || not (is_none ds)) (items_fit u holes ds) ok) shut none_left)
+  eager_at (listed ds) (field.List u holes filled) ok plain shut none_left =
+      let items = fits_times u holes ds (and_second (not filled || not (is_none ds)) (items_fit u holes ds) ok) in
+      (refl, (eager_fields ds (times (count ds) (item_type u holes)) items (folded_times u holes ds shut) none_left).1)
   eager_at (listed ds) _ ok plain shut none_left = absurd cc
   eager_at _ (field.Lazy u) ok plain shut none_left = absurd cc
   eager_at (child c) _ ok plain shut none_left = absurd cc
@@ -94,13 +94,6 @@ mutual
       let first = eager_at d t (and_first (fits t d) (fit ts ds) ok) (and_first (is_folded t d) (folded_at d && folded_fields ts ds) shut) (and_first (folded_at d) (folded_fields ts ds) others) (and_first (is_whole_at d) (is_whole_in ds) none_left) in
       let rest = eager_fields ds ts (and_second (fits t d) (fit ts ds) ok) (and_second (folded_at d) (folded_fields ts ds) others) (and_second (is_whole_at d) (is_whole_in ds) none_left) in
       (neither (is_lazy_type t) (list_any is_lazy_type ts) first.0 rest.0, both (is_eager_at d) (are_eager ds) first.1 rest.1)
-
-  eager_items : (ds : Data) (u : Union) (holes : Bool) → items_fit u holes ds ≡ true → folded_items ds ≡ true → is_whole_in ds ≡ true → are_eager ds ≡ true
-  eager_items none u holes ok shut none_left = refl
-  eager_items (more d ds) u holes ok shut none_left =
-      both (is_eager_at d) (are_eager ds)
-      (eager_at d (item_type u holes) (and_first (fits (item_type u holes) d) (items_fit u holes ds) ok) (plain_item u holes d) (and_first (folded_at d) (folded_items ds) shut) (and_first (is_whole_at d) (is_whole_in ds) none_left)).1
-      (eager_items ds u holes (and_second (fits (item_type u holes) d) (items_fit u holes ds) ok) (and_second (folded_at d) (folded_items ds) shut) (and_second (is_whole_at d) (is_whole_in ds) none_left))
 
 -- ---- so a whole script that is read is one of the grammar of files
 
