@@ -28,7 +28,7 @@ use Rattle.tree_decoder.proofs.InGrammar.{in_grammar-accepted, read-in_grammar, 
 use Rattle.tree_decoder.proofs.LazyAtoms.{eager_read}
 use Rattle.tree_decoder.proofs.OneScript.{one_over}
 use Rattle.tree_decoder.proofs.SameTree.{same_tree}
-use Rattle.tree_decoder.proofs.Values.{script_there}
+use Rattle.tree_decoder.proofs.Rows.{script_there}
 use Rattle.violations.specs.Violations.{first_violation, script}
 use Rattle.violations.proofs.Least.{first_violation_is_least}
 

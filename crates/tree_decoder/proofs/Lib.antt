@@ -12,10 +12,8 @@ pub mod OneScript
 pub mod OneTree
 pub mod ReadFile
 pub mod Rows
-pub mod Runs
 pub mod SameTree
 pub mod Single
 pub mod Spelling
-pub mod Values
 pub mod Whole
 pub mod WholeReadings

@@ -13,8 +13,7 @@ use Rattle.tree_decoder.specs.Found.{Found, Run, Fails, Spent, SpentFails}
 use Rattle.tree_decoder.specs.Range.{range_of}
 use Rattle.tree_decoder.specs.Windows.{windows, windows_in}
 use Rattle.tree_decoder.proofs.Machine.{kind_stands, count_stands}
-use Rattle.tree_decoder.proofs.Nodes.{kind_read, node_found, absent_found, node_made, atom_fails, atom_spends, rest_fails, rest_spends, kind_atom, count_atom, spent_node, list_found, below_bounds, node_is, no_fault}
-use Rattle.tree_decoder.proofs.Runs.{chain_more, chain_run, chain_times, fails_at, spends_at, spent_more, stops_at, take_split, times_at}
+use Rattle.tree_decoder.proofs.Nodes.{kind_read, node_found, absent_found, node_made, atom_fails, atom_spends, rest_fails, rest_spends, kind_atom, count_atom, spent_node, list_found, below_bounds, node_is, no_fault, chain_more, chain_run, chain_times, fails_at, spends_at, spent_more, stops_at, take_split, times_at}
 use Rattle.tree_decoder.proofs.reading.+read.Goals as goal
 
 -- ---- fields

@@ -5,7 +5,7 @@ use Rattle.tree_decoder.specs.Dues.{times}
 use Rattle.tree_decoder.specs.Found.{Spent}
 use Rattle.tree_decoder.specs.Range.{range_of}
 use Rattle.tree_decoder.specs.Windows.{windows_in}
-use Rattle.tree_decoder.proofs.Runs.{Chain}
+use Rattle.tree_decoder.proofs.Nodes.{Chain}
 use Rattle.tree_decoder.proofs.reading.+read.Given as goal
 
 abbrev pub decreases-value : goal.decreases-value
