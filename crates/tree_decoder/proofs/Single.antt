@@ -161,7 +161,7 @@ whole_bad r at bits far is never =
     let found : whole_with (from_be_bytes w64 (slice_range r.tape at (at + 8))) ≡ None = whole_none _ (λ n lt e. never n lt (e ∙ sym is)) in
     rw (long, found) refl
 
--- ----
+-- ---- values with no parts
 
 or_true : (a b : Bool) → b ≡ true → (a || b) ≡ true
 or_true true b e = refl
