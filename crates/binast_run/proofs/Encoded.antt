@@ -43,10 +43,9 @@ use Rattle.tree_decoder.specs.Reading.{fault_in, first_fault, tree_fault, IsFile
 use Rattle.tree_decoder.specs.WholeReading.{IsWhole, whole}
 use Rattle.tree_decoder.proofs.EagerWhole.{eager_is_whole}
 use Rattle.tree_decoder.proofs.EveryFile.{file_there}
-use Rattle.tree_decoder.proofs.InGrammar.{in_grammar-accepted, read-in_grammar}
+use Rattle.tree_decoder.proofs.InGrammar.{file_of, in_grammar-accepted, one_tree_in_file, read-in_grammar}
 use Rattle.tree_decoder.proofs.LazyAtoms.{eager_read, joined, none_other}
-use Rattle.tree_decoder.proofs.OneFile.{file_of, one_tree_in_file}
-use Rattle.tree_decoder.proofs.OneTable.{one_over}
+use Rattle.tree_decoder.proofs.OneScript.{one_over}
 use Rattle.tree_decoder.proofs.SameTree.{atoms_same, same_tree}
 use Rattle.tree_decoder.proofs.WholeReadings.{one_whole}
 use Rattle.tree_encoder.specs.File.{texts_held}

@@ -1,13 +1,15 @@
--- What spells a tree is read with no fault.
-use Rattle.std.proofs.Common.{ℕ, zero, suc, ◌+◌, ◌-◌, ◌^◌, ◌<◌, ◌≤◌, ◌≡◌, Bool, true, false, not, ◌&&◌, ◌||◌, cond, ltb, eqb, List, [], ◌∷◌, ◌++◌, length, take, drop, get_or, Option, Some, None, Ok, refl, sym, ap, ◌∙◌, arith, append_assoc, slice_get, slice_index, slice_range, add-zero}
+-- The atoms of dues are read again from their spelling.
+use Rattle.std.proofs.Common.{ℕ, zero, suc, ◌+◌, ◌-◌, ◌^◌, ◌<◌, ◌≤◌, ◌≡◌, Bool, true, false, not, ◌&&◌, ◌||◌, cond, ltb, eqb, List, [], ◌∷◌, ◌++◌, length, take, drop, Option, Some, None, Ok, refl, sym, ap, subst, ◌∙◌, arith, slice_get, slice_index, slice_range, append_assoc}
+use Rattle.std.specs.Prelude.{nat_le}
 use Rattle.std.specs.List.{list_all, list_any, position_from}
 use Rattle.std.specs.Option.{is_some, unwrap_or}
 use Rattle.std.specs.Int.{w64, from_be_bytes, to_be_bytes}
 use Rattle.std.proofs.lemmas.Bool.{ltb-true, lt-ltb, le-ltb}
+use Rattle.std.proofs.lemmas.Bool.Decides.{nat_tests}
 use Rattle.std.proofs.lemmas.List.{take_at, drop_at, length-append}
 use Rattle.std.proofs.lemmas.List.Folds.{list_all-append}
 use Rattle.std.proofs.lemmas.Nat.{from_be_bytes-to_be_bytes_8}
-use Rattle.std.proofs.lemmas.Option.{slice_get_within, slice_get-get_or}
+use Rattle.std.proofs.lemmas.Option.{slice_get_within}
 use Rattle.var_numbers.specs.Pattern.{pattern}
 use Rattle.var_numbers.specs.Varnum.{varnum}
 use Rattle.var_numbers.proofs.PatternLemmas.{pattern-zero, parts_of}
@@ -18,52 +20,43 @@ use Rattle.bast_schema.specs.declared.kind.FieldType.TheVariants as field
 use Rattle.bast_schema.specs.declared.kind.Kind.{Kind}
 use Rattle.bast_schema.specs.declared.kind.Kind.TheVariants.{Null}
 use Rattle.bast_schema.specs.declared.kind.Union.{Union}
-use Rattle.bast_schema.specs.declared.kind.Union.TheVariants.{Body}
-use Rattle.bast_schema.specs.Choices.{choice_texts, choice_of_text}
+use Rattle.bast_schema.specs.Choices.{choice_of_text}
 use Rattle.bast_schema.specs.Fields.{fields, has_lazy}
-use Rattle.bast_schema.specs.Held.{Held, text_of, bytes_of}
 use Rattle.bast_schema.specs.Kinds.{counted, same_kind}
-use Rattle.bast_schema.specs.Tree.{Tree, branch, Datum, child, absent, listed, flag, index, whole, name, no_name, choice, window, Data, none, more, fits, fit, items_fit, item_type, is_none, count, depth, depth_at, depth_in, typed, kind_of}
+use Rattle.bast_schema.specs.Tree.{Datum, flag, index, whole, name, no_name, choice, window, item_type}
 use Rattle.bast_schema.specs.Unions.{allowed}
 use Rattle.bast_schema.proofs.Both.{and_first, and_second}
-use Rattle.bast_schema.proofs.ChoiceTexts.{choice_of_its_text}
 use Rattle.bast_schema.proofs.Distinct.{kind_at_place, few_kinds}
-use Rattle.bast_schema.proofs.EachKind.{same_kind_true}
 use Rattle.string_table.specs.Entries.{place_in, is_same}
 use Rattle.string_table.proofs.Laws.{slice_get-place_in}
 use Rattle.string_table.proofs.Search.{position-from}
-use Rattle.container.specs.Atoms as atom
-use Rattle.container.specs.Atoms.{Atom, kind, text, chosen, atoms, atoms_of, atoms_of_fields, atoms_of_items}
-use Rattle.bast_schema.specs.Eager.{is_eager, is_eager_at, are_eager}
-use Rattle.container.specs.InFile.{has_atom}
-use Rattle.container.specs.Spelled.{framed, spelled, spelled_at, spelled_items, spelled_fields}
-use Rattle.container.specs.Tables.{Tables, kind_place, text_place}
-use Rattle.container.proofs.SizeSpelled.{items_long}
-use Rattle.tree_decoder.specs.Dues.{Due, due, dues, times, below, children, taken}
 use Rattle.container.specs.Answers.{◌>>=◌}
-use Rattle.tree_decoder.specs.Numbers.{number_from, judged, kind_of_number, kind_at, count_at, name_of, label_of, variant_of, choice_at, flag_at, numbered, leaf_at, is_leaf}
-use Rattle.tree_decoder.specs.Outcome.{Outcome, fault_from}
-use Rattle.tree_decoder.specs.Range.{Range, IsSound, left}
-use Rattle.container.specs.Named.{named, named_at, all_named}
-use Rattle.tree_decoder.specs.Windows.{windows_at}
-use Rattle.tree_decoder.proofs.Machine.{from_step}
-use Rattle.tree_decoder.proofs.Nodes.{node_goes, list_goes, framed_item, item_atoms, item_spelled}
-use Rattle.tree_decoder.proofs.Single.{leaf_atom, first_byte}
+use Rattle.container.specs.Atoms as atom
+use Rattle.container.specs.Atoms.{Atom, kind, text}
+use Rattle.container.specs.InFile.{has_atom}
+use Rattle.container.specs.SpelledAtom.{spelled_atom}
+use Rattle.container.specs.Tables.{Tables, kind_place, text_place}
 use Rattle.container.proofs.Ranges.{range_split}
-use Rattle.tree_decoder.proofs.Spells.{is_ok, range_drop, left_length}
-use Rattle.tree_decoder.proofs.Wholes.{whole_here}
+use Rattle.tree_decoder.specs.Dues.{Due, dues, times, below, children, taken, atom_of}
+use Rattle.tree_decoder.specs.Left.{puts}
+use Rattle.tree_decoder.specs.Numbers.{number_from, judged, kind_of_number, kind_at, count_at, name_of, label_of, variant_of, choice_at, flag_at, numbered, leaf_at, is_leaf}
+use Rattle.tree_decoder.specs.Range.{Range, IsSound, left}
+use Rattle.tree_decoder.specs.Windows.{windows_at}
+use Rattle.tree_decoder.proofs.EagerWhole.{not_true}
+use Rattle.tree_decoder.proofs.Nodes.{kind_atom, count_atom}
+use Rattle.tree_decoder.proofs.Single.{leaf_atom, first_byte, whole_here, is_ok, range_drop, left_length}
 
 -- ---- parts of the bytes
 
 -- a part lies within the range
-part_within : (r : Range) (part rest : List ℕ) (at : ℕ) → IsSound r → at ≤ r.end → left r at ≡ part ++ rest → at + length part ≤ r.end
+pub part_within : (r : Range) (part rest : List ℕ) (at : ℕ) → IsSound r → at ≤ r.end → left r at ≡ part ++ rest → at + length part ≤ r.end
 part_within r part rest at sound order e =
     let whole : length (left r at) ≡ r.end - at = left_length r at sound order in
     let parts : length (left r at) ≡ length part + length rest = ap length e ∙ length-append part rest in
     omega arith
 
 -- what begins with a part goes on behind it
-part_rest : (r : Range) (part rest : List ℕ) (at : ℕ) → IsSound r → at ≤ r.end → left r at ≡ part ++ rest → left r (at + length part) ≡ rest
+pub part_rest : (r : Range) (part rest : List ℕ) (at : ℕ) → IsSound r → at ≤ r.end → left r at ≡ part ++ rest → left r (at + length part) ≡ rest
 part_rest r part rest at sound order e =
     sym (range_drop r.tape at (length part) r.end (part_within r part rest at sound order e)) ∙ ap (drop (length part)) e ∙ drop_at part rest (length part) refl
 
@@ -138,11 +131,24 @@ back_atoms s xs ys e = and_second (list_all (has_atom s) xs) (list_all (has_atom
 
 -- ---- values with no parts
 
-leaf_goes : (r : Range) (t : FieldType) (d : ℕ) (w : Bool) (at to : ℕ) (v : Datum) (ds : List Due) → IsSound r → at ≤ r.end → is_leaf t ≡ true → leaf_at r t at ≡ is_ok (v, to) → fault_from r (due t d w ∷ ds) at ≡ fault_from r ds to
-leaf_goes r t d w at to v ds sound order leaf e = ap (λ (o : Outcome). o.fault) (from_step r (due t d w) ds at (taken [] (windows_at v) to) sound order (leaf_atom r t d w at (Ok (v, to)) leaf e))
+-- what is read where an atom of a due is spelled: what it puts in the due's place, and the place behind it
+abbrev Again : Range → FieldType → ℕ → Bool → ℕ → Atom → List Due → Type 0
+Again r t d w at a es = (ws : List (ℕ × ℕ)) × (atom_of r t d w at ≡ is_ok (taken es ws (at + length (spelled_atom r.tables a))))
 
-by_number : (r : Range) (t : FieldType) (d : ℕ) (w : Bool) (at n : ℕ) (v : Datum) (rest : List ℕ) (ds : List Due) → IsSound r → at ≤ r.end → is_leaf t ≡ true → n < 2 ^ 32 → left r at ≡ varnum n ++ rest → (number_from r at ≡ is_ok (n, at + length (varnum n)) → leaf_at r t at ≡ is_ok (v, at + length (varnum n))) → fault_from r (due t d w ∷ ds) at ≡ fault_from r ds (at + length (varnum n))
-by_number r t d w at n v rest ds sound order leaf lt e made = leaf_goes r t d w at (at + length (varnum n)) v ds sound order leaf (made (number_again r at n rest lt e))
+same_some : (ds es : List Due) → Some ds ≡ Some es → ds ≡ es
+same_some ds es e = cc
+
+if_some : (b : Bool) (ds es : List Due) → cond b (Some ds) None ≡ Some es → (b ≡ true) × (ds ≡ es)
+if_some true ds es e = (refl, cc)
+if_some false ds es e = absurd cc
+
+if_none : (b : Bool) (ds es : List Due) → cond b None (Some ds) ≡ Some es → (b ≡ false) × (ds ≡ es)
+if_none true ds es e = absurd cc
+if_none false ds es e = (refl, cc)
+
+leaf_again : (r : Range) (t : FieldType) (d : ℕ) (w : Bool) (at : ℕ) (a : Atom) (es : List Due) (v : Datum) → is_leaf t ≡ true → [] ≡ es → leaf_at r t at ≡ is_ok (v, at + length (spelled_atom r.tables a)) → Again r t d w at a es
+leaf_again r t d w at a es v leaf none e =
+    subst (λ (ds : List Due). Again r t d w at a ds) none (windows_at v, leaf_atom r t d w at (Ok (v, at + length (spelled_atom r.tables a))) leaf e)
 
 name_again : (at n next : ℕ) (o : Option (Option (List ℕ))) (entry : Option (List ℕ)) → o ≡ Some entry → is_some entry ≡ true → name_of at n next o ≡ is_ok (name n, next)
 name_again at n next o (Some t) e some = rw e refl
@@ -152,61 +158,39 @@ label_again : (at n next : ℕ) (o : Option (Option (List ℕ))) (entry : Option
 label_again at n next o (Some t) e = (name n, rw e refl)
 label_again at n next o None e = (no_name, rw e refl)
 
-label_goes : (r : Range) (d : ℕ) (w : Bool) (at : ℕ) (entry : Option (List ℕ)) (rest : List ℕ) (ds : List Due) → IsSound r → at ≤ r.end → HasText r entry → left r at ≡ varnum (text_place r.tables entry) ++ rest → fault_from r (due field.Label d w ∷ ds) at ≡ fault_from r ds (at + length (varnum (text_place r.tables entry)))
-label_goes r d w at entry rest ds sound order has e =
-    let n = text_place r.tables entry in
-    let v = label_again at n (at + length (varnum n)) (slice_get r.tables.texts n) entry has.there in
-    by_number r field.Label d w at n v.0 rest ds sound order refl has.small e (λ q. ap (λ p. p >>= λ x. numbered r field.Label at x.0 x.1) q ∙ v.1)
+choice_again : (set : EnumId) (at next : ℕ) (o : Option (Option (List ℕ))) (bytes : List ℕ) (c : Option ℕ) → o ≡ Some (Some bytes) → choice_of_text set bytes ≡ c → is_some c ≡ true → (v : Datum) × (choice_at set at next o ≡ is_ok (v, next))
+choice_again set at next o bytes (Some c) e found some = (choice c, ap (choice_at set at next) e ∙ ap (variant_of at next) found)
+choice_again set at next o bytes None e found some = cc
 
-name_goes : (r : Range) (t : FieldType) (d : ℕ) (w : Bool) (at : ℕ) (entry : Option (List ℕ)) (rest : List ℕ) (ds : List Due) → IsSound r → at ≤ r.end → is_leaf t ≡ true → ((n next : ℕ) → (number_from r at ≡ is_ok (n, next)) → leaf_at r t at ≡ name_of at n next (slice_get r.tables.texts n)) → HasText r entry → is_some entry ≡ true → left r at ≡ varnum (text_place r.tables entry) ++ rest → fault_from r (due t d w ∷ ds) at ≡ fault_from r ds (at + length (varnum (text_place r.tables entry)))
-name_goes r t d w at entry rest ds sound order leaf as_name has some e =
-    let n = text_place r.tables entry in
-    by_number r t d w at n (name n) rest ds sound order leaf has.small e (λ q. as_name n (at + length (varnum n)) q ∙ name_again at n (at + length (varnum n)) (slice_get r.tables.texts n) entry has.there some)
+-- by the number that is spelled
+by_number : (r : Range) (t : FieldType) (at n : ℕ) (v : Datum) (rest : List ℕ) → n < 2 ^ 32 → left r at ≡ varnum n ++ rest
+    → leaf_at r t at ≡ (number_from r at >>= λ x. numbered r t at x.0 x.1) → numbered r t at n (at + length (varnum n)) ≡ is_ok (v, at + length (varnum n)) → leaf_at r t at ≡ is_ok (v, at + length (varnum n))
+by_number r t at n v rest lt e reads is = reads ∙ ap (λ p. p >>= λ x. numbered r t at x.0 x.1) (number_again r at n rest lt e) ∙ is
 
-choice_again : (set : EnumId) (at next c : ℕ) (o : Option (Option (List ℕ))) (bytes : List ℕ) → o ≡ Some (Some bytes) → choice_of_text set bytes ≡ Some c → choice_at set at next o ≡ is_ok (choice c, next)
-choice_again set at next c o bytes e found = ap (choice_at set at next) e ∙ ap (variant_of at next) found
-
--- the text of a choice
-pub choice_text_of : (set : EnumId) (c : ℕ) → c < length (choice_texts set) → choice_of_text set (get_or (choice_texts set) c []) ≡ Some c
-choice_text_of set c lt = choice_of_its_text set c (get_or (choice_texts set) c []) (slice_get-get_or (choice_texts set) c [] lt)
-
-choice_goes : (r : Range) (set : EnumId) (d : ℕ) (w : Bool) (at c : ℕ) (rest : List ℕ) (ds : List Due) → IsSound r → at ≤ r.end → c < length (choice_texts set) → HasText r (chosen (field.Choice set) c) → left r at ≡ varnum (text_place r.tables (chosen (field.Choice set) c)) ++ rest → fault_from r (due (field.Choice set) d w ∷ ds) at ≡ fault_from r ds (at + length (varnum (text_place r.tables (chosen (field.Choice set) c))))
-choice_goes r set d w at c rest ds sound order lt has e =
-    let n = text_place r.tables (chosen (field.Choice set) c) in
-    by_number r (field.Choice set) d w at n (choice c) rest ds sound order refl has.small e (λ q. ap (λ p. p >>= λ x. numbered r (field.Choice set) at x.0 x.1) q ∙ choice_again set at (at + length (varnum n)) c (slice_get r.tables.texts n) (get_or (choice_texts set) c []) has.there (choice_text_of set c lt))
-
-lazy_goes : (r : Range) (u : Union) (d : ℕ) (w : Bool) (at : ℕ) (bytes rest : List ℕ) (ds : List Due) → IsSound r → at ≤ r.end → left r at ≡ (varnum (length bytes) ++ bytes) ++ rest → fault_from r (due (field.Lazy u) d w ∷ ds) at ≡ fault_from r ds (at + length (varnum (length bytes) ++ bytes))
-lazy_goes r u d w at bytes rest ds sound order e =
-    let n = length bytes in
+lazy_again : (r : Range) (u : Union) (at : ℕ) (bytes rest : List ℕ) → IsSound r → at ≤ r.end → left r at ≡ (varnum (length bytes) ++ bytes) ++ rest → (v : Datum) × (leaf_at r (field.Lazy u) at ≡ is_ok (v, at + length (varnum (length bytes) ++ bytes)))
+lazy_again r u at bytes rest sound order e =
+    let next = at + length (varnum (length bytes)) in
     let size : length (varnum (length bytes) ++ bytes) ≡ length (varnum (length bytes)) + length bytes = length-append (varnum (length bytes)) bytes in
     let far : at + length (varnum (length bytes) ++ bytes) ≤ r.end = part_within r (varnum (length bytes) ++ bytes) rest at sound order e in
     let inside : r.end ≤ length r.tape = sound.within in
     let short : length r.tape ≤ 8388608 = sound.short in
-    let apart : left r at ≡ varnum (length bytes) ++ (bytes ++ rest) = e ∙ append_assoc (varnum (length bytes)) bytes rest in
-    let read = number_again r at (length bytes) (bytes ++ rest) (omega arith) apart in
-    let next = at + length (varnum (length bytes)) in
+    let read = number_again r at (length bytes) (bytes ++ rest) (omega arith) (e ∙ append_assoc (varnum (length bytes)) bytes rest) in
     let fits_in : ltb r.end (at + length (varnum (length bytes)) + length bytes) ≡ false = le-ltb _ _ (omega arith) in
     let to : at + length (varnum (length bytes)) + length bytes ≡ at + length (varnum (length bytes) ++ bytes) = omega arith in
-    leaf_goes r (field.Lazy u) d w at (next + n) (window next (next + n)) ds sound order refl (ap (λ p. p >>= λ x. numbered r (field.Lazy u) at x.0 x.1) read ∙ rw fits_in refl)
-    ∙ ap (λ (k : ℕ). fault_from r ds k) to
+    (window next (next + length bytes), ap (λ p. p >>= λ x. numbered r (field.Lazy u) at x.0 x.1) read ∙ rw fits_in (ap (λ (k : ℕ). is_ok (window next (next + length bytes), k)) to))
 
 -- ---- by bytes
-
-flag_again : (r : Range) (at n : ℕ) (rest : List ℕ) → IsSound r → at ≤ r.end → left r at ≡ n ∷ rest → (at < r.end) × (slice_index r.tape at ≡ n)
-flag_again r at n rest sound order e =
-    let far : at + 1 ≤ r.end = part_within r (n ∷ []) rest at sound order e in
-    let same : slice_index r.tape at ∷ left r (at + 1) ≡ n ∷ rest = sym (first_byte r at sound (omega arith)) ∙ e in
-    (omega arith, cc)
 
 flag_is : (r : Range) (at : ℕ) (b : Bool) → at < r.end → slice_index r.tape at ≡ cond b 1 0 → flag_at r at ≡ is_ok (flag b, at + 1)
 unfolding flag_at
 flag_is r at true lt same = rw (lt-ltb at r.end lt, same) refl
 flag_is r at false lt same = rw (lt-ltb at r.end lt, same) refl
 
-flag_goes : (r : Range) (d : ℕ) (w : Bool) (at : ℕ) (b : Bool) (rest : List ℕ) (ds : List Due) → IsSound r → at ≤ r.end → left r at ≡ cond b 1 0 ∷ rest → fault_from r (due field.Bool d w ∷ ds) at ≡ fault_from r ds (at + 1)
-flag_goes r d w at b rest ds sound order e =
-    let f = flag_again r at (cond b 1 0) rest sound order e in
-    leaf_goes r field.Bool d w at (at + 1) (flag b) ds sound order refl (flag_is r at b f.0 f.1)
+flag_again : (r : Range) (at : ℕ) (b : Bool) (rest : List ℕ) → IsSound r → at ≤ r.end → left r at ≡ cond b 1 0 ∷ rest → flag_at r at ≡ is_ok (flag b, at + 1)
+flag_again r at b rest sound order e =
+    let far : at + 1 ≤ r.end = part_within r (cond b 1 0 ∷ []) rest at sound order e in
+    let same : slice_index r.tape at ∷ left r (at + 1) ≡ cond b 1 0 ∷ rest = sym (first_byte r at sound (omega arith)) ∙ e in
+    flag_is r at b (omega arith) cc
 
 pub pattern_small : (n : ℕ) → n < 2 ^ 53 → pattern n < 2 ^ 64
 pattern_small zero lt = rw pattern-zero (omega arith)
@@ -216,154 +200,94 @@ pattern_small (suc n) lt =
     let biased = p.biased in
     omega arith
 
-whole_goes : (r : Range) (d : ℕ) (w : Bool) (at n : ℕ) (rest : List ℕ) (ds : List Due) → IsSound r → at ≤ r.end → n < 2 ^ 53 → left r at ≡ to_be_bytes w64 (pattern n) ++ rest → fault_from r (due field.Whole d w ∷ ds) at ≡ fault_from r ds (at + 8)
-whole_goes r d w at n rest ds sound order lt e =
+whole_again : (r : Range) (at n : ℕ) (rest : List ℕ) → IsSound r → at ≤ r.end → n < 2 ^ 53 → left r at ≡ to_be_bytes w64 (pattern n) ++ rest → leaf_at r field.Whole at ≡ is_ok (whole n, at + 8)
+whole_again r at n rest sound order lt e =
     let far : at + 8 ≤ r.end = part_within r (to_be_bytes w64 (pattern n)) rest at sound order e in
     let bytes : slice_range r.tape at (at + 8) ≡ to_be_bytes w64 (pattern n) = part_first r (to_be_bytes w64 (pattern n)) rest at sound order e in
     let bits : pattern n ≡ from_be_bytes w64 (slice_range r.tape at (at + 8)) = sym (ap (from_be_bytes w64) bytes ∙ from_be_bytes-to_be_bytes_8 (pattern n) (pattern_small n lt)) in
-    leaf_goes r field.Whole d w at (at + 8) (whole n) ds sound order refl (whole_here r at (pattern n) n far bits lt refl)
+    whole_here r at (pattern n) n far bits lt refl
 
 -- ---- kinds and counts
 
-pub record GoesAs (r : Range) (u : Union) (optional : Bool) (d : ℕ) (w : Bool) (at : ℕ) (k : Kind) (next : ℕ) : Type 0 where
-  pub found : Option Kind
-  pub is : kind_at r u optional d w at ≡ is_ok (found, next)
-  pub puts : children found d w ≡ dues (fields k) (below k d) w
+judged_again : (u : Union) (d : ℕ) (w : Bool) (at next : ℕ) (k : Kind) → (allowed u k && not (w && has_lazy k)) ≡ true → not (counted k && ltb 512 d) ≡ true → judged u d w at next k ≡ is_ok (Some k, next)
+judged_again u d w at next k may shallow =
+    rw (and_first (allowed u k) (not (w && has_lazy k)) may, not_true (w && has_lazy k) (and_second (allowed u k) (not (w && has_lazy k)) may), not_true (counted k && ltb 512 d) shallow) refl
 
-judged_again : (u : Union) (d : ℕ) (w : Bool) (at next : ℕ) (k : Kind) → allowed u k ≡ true → (w && has_lazy k) ≡ false → (counted k && ltb 512 d) ≡ false → judged u d w at next k ≡ is_ok (Some k, next)
-judged_again u d w at next k allow eager shallow = rw (allow, eager, shallow) refl
+-- a kind, or none where it is that of an absent node
+abbrev Chosen : Union → Bool → ℕ → Bool → ℕ → ℕ → Kind → List Due → Type 0
+Chosen u optional d w at next k es = (o : Option Kind) × (kind_of_number u optional d w at next (Some k) ≡ is_ok (o, next)) × (children o d w ≡ es)
 
-kind_choice : (u : Union) (optional : Bool) (d : ℕ) (w : Bool) (at next : ℕ) (k : Kind) (b : Bool) → (optional && same_kind k Null) ≡ b → judged u d w at next k ≡ is_ok (Some k, next) → (o : Option Kind) × (kind_of_number u optional d w at next (Some k) ≡ is_ok (o, next)) × (children o d w ≡ dues (fields k) (below k d) w)
-kind_choice u optional d w at next k true is judge =
-    let null : k ≡ Null = same_kind_true k Null (and_second optional (same_kind k Null) is) in
-    (None, rw is refl, ap (λ (j : Kind). dues (fields j) (below j d) w) (sym null))
-kind_choice u optional d w at next k false is judge = (Some k, rw is judge, refl)
+kind_chosen : (u : Union) (d : ℕ) (w : Bool) (at next : ℕ) (k : Kind) (es : List Due) → puts (field.Node u) d w (kind k) ≡ Some es → not (counted k && ltb 512 d) ≡ true → Chosen u false d w at next k es
+kind_chosen u d w at next k es e shallow =
+    let g = if_some (allowed u k && not (w && has_lazy k)) (dues (fields k) (below k d) w) es e in
+    (Some k, judged_again u d w at next k g.0 shallow, g.1)
 
-kind_again : (r : Range) (u : Union) (optional : Bool) (d : ℕ) (w : Bool) (at : ℕ) (k : Kind) (rest : List ℕ) → HasKind r k → allowed u k ≡ true → (w && has_lazy k) ≡ false → (counted k && ltb 512 d) ≡ false → left r at ≡ varnum (kind_place r.tables k) ++ rest → GoesAs r u optional d w at k (at + length (varnum (kind_place r.tables k)))
+optional_chosen : (u : Union) (d : ℕ) (w : Bool) (at next : ℕ) (k : Kind) (es : List Due) (b : Bool) → same_kind k Null ≡ b → cond b (Some []) (puts (field.Node u) d w (kind k)) ≡ Some es → not (counted k && ltb 512 d) ≡ true → Chosen u true d w at next k es
+optional_chosen u d w at next k es true is e shallow = (None, rw is refl, same_some [] es e)
+optional_chosen u d w at next k es false is e shallow = let c = kind_chosen u d w at next k es e shallow in (c.0, rw is c.1, c.2)
+
+kind_again : (r : Range) (u : Union) (optional : Bool) (d : ℕ) (w : Bool) (at : ℕ) (k : Kind) (es : List Due) (rest : List ℕ) → HasKind r k → Chosen u optional d w at (at + length (varnum (kind_place r.tables k))) k es → left r at ≡ varnum (kind_place r.tables k) ++ rest → Again r (item_type u optional) d w at (kind k) es
 unfolding kind_at
-kind_again r u optional d w at k rest has allow eager shallow e =
-    let n = kind_place r.tables k in
+kind_again r u optional d w at k es rest has o e =
     let next = at + length (varnum (kind_place r.tables k)) in
-    let read = number_again r at n rest has.small e in
-    let o = kind_choice u optional d w at next k (optional && same_kind k Null) refl (judged_again u d w at next k allow eager shallow) in
-    record {
-      found = o.0;
-      is = ap (λ p. p >>= λ x. kind_of_number u optional d w at x.1 (slice_get r.tables.kinds x.0)) read ∙ ap (kind_of_number u optional d w at next) has.there ∙ o.1;
-      puts = o.2;
-    }
-
-absent_again : (r : Range) (u : Union) (d : ℕ) (w : Bool) (at : ℕ) (rest : List ℕ) → HasKind r Null → left r at ≡ varnum (kind_place r.tables Null) ++ rest → kind_at r u true d w at ≡ is_ok (None, at + length (varnum (kind_place r.tables Null)))
-unfolding kind_at
-absent_again r u d w at rest has e =
-    let n = kind_place r.tables Null in
-    let next = at + length (varnum (kind_place r.tables Null)) in
-    ap (λ p. p >>= λ x. kind_of_number u true d w at x.1 (slice_get r.tables.kinds x.0)) (number_again r at n rest has.small e) ∙ ap (kind_of_number u true d w at next) has.there
+    let read = ap (λ p. p >>= λ x. kind_of_number u optional d w at x.1 (slice_get r.tables.kinds x.0)) (number_again r at (kind_place r.tables k) rest has.small e) ∙ ap (kind_of_number u optional d w at next) has.there ∙ o.1 in
+    ([], kind_atom r u optional d w at (is_ok (o.0, next)) read ∙ ap (λ (ds : List Due). is_ok (taken ds [] next)) o.2)
 
 count_again : (r : Range) (filled : Bool) (at n : ℕ) (rest : List ℕ) → n < 2 ^ 32 → (filled && eqb n 0) ≡ false → left r at ≡ varnum n ++ rest → count_at r filled at ≡ is_ok (n, at + length (varnum n))
 unfolding count_at
 count_again r filled at n rest lt enough e = rw (number_again r at n rest lt e, enough) refl
 
-shallow_of : (b : Bool) (x d : ℕ) → cond b 1 0 + x + d ≤ 513 → ((b && ltb 512 d) ≡ false) × (x + cond b (d + 1) d ≤ 513)
-shallow_of true x d h = (le-ltb _ _ (omega arith), omega arith)
-shallow_of false x d h = (refl, omega arith)
+le_is : (m n : ℕ) → nat_le m n ≡ true → m ≤ n
+le_is m n e = grind (arith, nat_tests)
 
-pub enough_of : (filled : Bool) (vs : Data) → (not filled || not (is_none vs)) ≡ true → (filled && eqb (count vs) 0) ≡ false
-enough_of false vs e = refl
-enough_of true none e = cc
-enough_of true (more v vs) e = grind arith
+list_again : (r : Range) (u : Union) (holes filled : Bool) (d : ℕ) (w : Bool) (at n : ℕ) (es : List Due) (rest : List ℕ) → IsSound r → at ≤ r.end → puts (field.List u holes filled) d w (atom.count n) ≡ Some es → nat_le n (length rest) ≡ true → left r at ≡ varnum n ++ rest → Again r (field.List u holes filled) d w at (atom.count n) es
+list_again r u holes filled d w at n es rest sound order e few is =
+    let g = if_none (filled && eqb n 0) (dues (times n (item_type u holes)) d w) es e in
+    let whole : length (left r at) ≡ r.end - at = left_length r at sound order in
+    let parts : length (left r at) ≡ length (varnum n) + length rest = ap length is ∙ length-append (varnum n) rest in
+    let inside : r.end ≤ length r.tape = sound.within in
+    let short : length r.tape ≤ 8388608 = sound.short in
+    let many : n ≤ length rest = le_is n (length rest) few in
+    let next = at + length (varnum n) in
+    ([], count_atom r u holes filled d w at (is_ok (n, next)) (count_again r filled at n rest (omega arith) g.0 is) ∙ ap (λ (ds : List Due). is_ok (taken ds [] next)) g.1)
 
-pub not_lazy : (w b c : Bool) → (w ≡ true → (not b && c) ≡ true) → (w && b) ≡ false
-not_lazy false b c eager = refl
-not_lazy true true c eager = let h = eager refl in cc
-not_lazy true false c eager = refl
+-- ---- all of them
 
--- ---- trees
+-- a node is not too deep, a count is no larger than the bytes behind it, and a window is allowed
+abbrev pub sits : ℕ → Bool → ℕ → ℕ → Atom → Bool
+sits limit windows d size (kind k) = not (counted k && ltb limit d)
+sits limit windows d size (atom.count n) = nat_le n size
+sits limit windows d size (atom.window bytes) = windows
+sits limit windows d size _ = true
 
-mutual
-  pub accept_tree : (r : Range) (h : Held) → IsSound r → (t : Tree) (u : Union) (optional : Bool) (d : ℕ) (w : Bool) (at : ℕ) (rest : List ℕ) → at ≤ r.end → (allowed u (kind_of t) && typed t) ≡ true → list_all (has_atom r.tables) (atoms h t) ≡ true → named h t ≡ true → (w ≡ true → is_eager t ≡ true) → depth t + d ≤ 513 → left r at ≡ spelled r.tables h t ++ rest → (ds : List Due) → fault_from r (due (item_type u optional) d w ∷ ds) at ≡ fault_from r ds (at + length (spelled r.tables h t))
-  accept_tree r h sound (branch k vs) u optional d w at rest order ok has names eager deep e ds =
-      let fit_ok = and_second (allowed u k) (fit (fields k) vs) ok in
-      let sh = shallow_of (counted k) (depth_in vs) d deep in
-      let n = kind_place r.tables k in
-      let bytes = spelled_fields r.tables h (fields k) vs in
-      let apart : left r at ≡ varnum (kind_place r.tables k) ++ (spelled_fields r.tables h (fields k) vs ++ rest) = e ∙ append_assoc (varnum n) bytes rest in
-      let far : at + length (varnum (kind_place r.tables k)) ≤ r.end = part_within r (varnum n) (bytes ++ rest) at sound order apart in
-      let behind = part_rest r (varnum n) (bytes ++ rest) at sound order apart in
-      let there = has_kind r k sound (first_atom r.tables (kind k) (atoms_of_fields h (fields k) vs) has) in
-      let goes = kind_again r u optional d w at k (bytes ++ rest) there (and_first (allowed u k) (fit (fields k) vs) ok) (not_lazy w (has_lazy k) (are_eager vs) eager) sh.0 apart in
-      let size : length (varnum (kind_place r.tables k) ++ spelled_fields r.tables h (fields k) vs) ≡ length (varnum (kind_place r.tables k)) + length (spelled_fields r.tables h (fields k) vs) = length-append (varnum n) bytes in
-      let to : at + length (varnum (kind_place r.tables k)) + length (spelled_fields r.tables h (fields k) vs) ≡ at + length (varnum (kind_place r.tables k) ++ spelled_fields r.tables h (fields k) vs) = omega arith in
-      ap (λ (o : Outcome). o.fault) (node_goes r u optional d w at goes.found (at + length (varnum n)) ds sound order goes.is)
-      ∙ ap (λ (xs : List Due). fault_from r (xs ++ ds) (at + length (varnum n))) goes.puts
-      ∙ accept_fields r h sound vs (fields k) (below k d) w (at + length (varnum n)) rest far fit_ok (other_atoms r.tables (kind k) (atoms_of_fields h (fields k) vs) has) names (λ yes. and_second (not (has_lazy k)) (are_eager vs) (eager yes)) sh.1 behind ds
-      ∙ ap (λ (m : ℕ). fault_from r ds m) to
-
-  pub accept_at : (r : Range) (h : Held) → IsSound r → (v : Datum) (t : FieldType) (d : ℕ) (w : Bool) (at : ℕ) (rest : List ℕ) → at ≤ r.end → fits t v ≡ true → list_all (has_atom r.tables) (atoms_of h t v) ≡ true → named_at h v ≡ true → (w ≡ true → is_eager_at v ≡ true) → depth_at v + d ≤ 513 → left r at ≡ framed t (spelled_at r.tables h t v) ++ rest → (ds : List Due) → fault_from r (due t d w ∷ ds) at ≡ fault_from r ds (at + length (framed t (spelled_at r.tables h t v)))
-  accept_at r h sound (child t) (field.Node u) d w at rest order ok has names eager deep e ds = accept_tree r h sound t u false d w at rest order ok has names eager deep e ds
-  accept_at r h sound (child t) (field.Optional u) d w at rest order ok has names eager deep e ds = accept_tree r h sound t u true d w at rest order ok has names eager deep e ds
-  accept_at r h sound (child t) (field.Lazy u) d w at rest order ok has names eager deep e ds = lazy_goes r u d w at (spelled r.tables h t) rest ds sound order e
-  accept_at r h sound (window from to) (field.Lazy u) d w at rest order ok has names eager deep e ds = lazy_goes r u d w at (bytes_of h from to) rest ds sound order e
-  accept_at r h sound absent (field.Optional u) d w at rest order ok has names eager deep e ds =
-      let there = has_kind r Null sound (first_atom r.tables (kind Null) [] has) in
-      ap (λ (o : Outcome). o.fault) (node_goes r u true d w at None (at + length (varnum (kind_place r.tables Null))) ds sound order (absent_again r u d w at rest there e))
-  accept_at r h sound (listed vs) (field.List u holes filled) d w at rest order ok has names eager deep e ds =
-      let full = and_first (not filled || not (is_none vs)) (items_fit u holes vs) ok in
-      let all = and_second (not filled || not (is_none vs)) (items_fit u holes vs) ok in
-      let n = count vs in
-      let bytes = spelled_items r.tables h vs in
-      let apart : left r at ≡ varnum (count vs) ++ (spelled_items r.tables h vs ++ rest) = e ∙ append_assoc (varnum n) bytes rest in
-      let far : at + length (varnum (count vs)) ≤ r.end = part_within r (varnum n) (bytes ++ rest) at sound order apart in
-      let whole_far : at + length (varnum (count vs) ++ spelled_items r.tables h vs) ≤ r.end = part_within r (varnum n ++ bytes) rest at sound order e in
-      let behind = part_rest r (varnum n) (bytes ++ rest) at sound order apart in
-      let size : length (varnum (count vs) ++ spelled_items r.tables h vs) ≡ length (varnum (count vs)) + length (spelled_items r.tables h vs) = length-append (varnum n) bytes in
-      let many : count vs ≤ length (spelled_items r.tables h vs) = items_long r.tables h u holes vs all in
-      let inside : r.end ≤ length r.tape = sound.within in
-      let short : length r.tape ≤ 8388608 = sound.short in
-      let counted_as = count_again r filled at n (bytes ++ rest) (omega arith) (enough_of filled vs full) apart in
-      let to : at + length (varnum (count vs)) + length (spelled_items r.tables h vs) ≡ at + length (varnum (count vs) ++ spelled_items r.tables h vs) = omega arith in
-      ap (λ (o : Outcome). o.fault) (list_goes r u holes filled d w at n (at + length (varnum n)) ds sound order counted_as)
-      ∙ accept_items r h sound vs u holes d w (at + length (varnum n)) rest far all (back_atoms r.tables (atom.count n ∷ []) (atoms_of_items h vs) has) names eager deep behind ds
-      ∙ ap (λ (m : ℕ). fault_from r ds m) to
-  accept_at r h sound (flag b) field.Bool d w at rest order ok has names eager deep e ds = flag_goes r d w at b rest ds sound order e
-  accept_at r h sound (index n) field.Index d w at rest order ok has names eager deep e ds = by_number r field.Index d w at n (index n) rest ds sound order refl (ltb-true _ _ ok) e (λ q. ap (λ p. p >>= λ x. numbered r field.Index at x.0 x.1) q)
-  accept_at r h sound (whole n) field.Whole d w at rest order ok has names eager deep e ds = whole_goes r d w at n rest ds sound order (ltb-true _ _ ok) e
-  accept_at r h sound (name n) field.Text d w at rest order ok has names eager deep e ds =
-      name_goes r field.Text d w at (text_of h n) rest ds sound order refl (λ m next q. ap (λ p. p >>= λ x. numbered r field.Text at x.0 x.1) q) (has_text r (text_of h n) sound (first_atom r.tables (text (text_of h n)) [] has)) names e
-  accept_at r h sound (name n) field.Name d w at rest order ok has names eager deep e ds =
-      name_goes r field.Name d w at (text_of h n) rest ds sound order refl (λ m next q. ap (λ p. p >>= λ x. numbered r field.Name at x.0 x.1) q) (has_text r (text_of h n) sound (first_atom r.tables (text (text_of h n)) [] has)) names e
-  accept_at r h sound (name n) field.Label d w at rest order ok has names eager deep e ds = label_goes r d w at (text_of h n) rest ds sound order (has_text r (text_of h n) sound (first_atom r.tables (text (text_of h n)) [] has)) e
-  accept_at r h sound no_name field.Label d w at rest order ok has names eager deep e ds = label_goes r d w at None rest ds sound order (has_text r None sound (first_atom r.tables (text None) [] has)) e
-  accept_at r h sound (choice c) (field.Choice set) d w at rest order ok has names eager deep e ds = choice_goes r set d w at c rest ds sound order (ltb-true _ _ ok) (has_text r (chosen (field.Choice set) c) sound (first_atom r.tables (text (chosen (field.Choice set) c)) [] has)) e
-  accept_at r h sound _ _ d w at rest order ok has names eager deep e ds = absurd cc
-
-  pub accept_fields : (r : Range) (h : Held) → IsSound r → (vs : Data) (ts : List FieldType) (d : ℕ) (w : Bool) (at : ℕ) (rest : List ℕ) → at ≤ r.end → fit ts vs ≡ true → list_all (has_atom r.tables) (atoms_of_fields h ts vs) ≡ true → all_named h vs ≡ true → (w ≡ true → are_eager vs ≡ true) → depth_in vs + d ≤ 513 → left r at ≡ spelled_fields r.tables h ts vs ++ rest → (ds : List Due) → fault_from r (dues ts d w ++ ds) at ≡ fault_from r ds (at + length (spelled_fields r.tables h ts vs))
-  accept_fields r h sound none [] d w at rest order ok has names eager deep e ds = ap (λ (n : ℕ). fault_from r ds n) (sym (add-zero at))
-  accept_fields r h sound none (t ∷ ts) d w at rest order ok has names eager deep e ds = absurd cc
-  accept_fields r h sound (more v vs) [] d w at rest order ok has names eager deep e ds = absurd cc
-  accept_fields r h sound (more v vs) (t ∷ ts) d w at rest order ok has names eager deep e ds =
-      let apart : left r at ≡ framed t (spelled_at r.tables h t v) ++ (spelled_fields r.tables h ts vs ++ rest) = e ∙ append_assoc (framed t (spelled_at r.tables h t v)) (spelled_fields r.tables h ts vs) rest in
-      let far = part_within r (framed t (spelled_at r.tables h t v)) (spelled_fields r.tables h ts vs ++ rest) at sound order apart in
-      let behind = part_rest r (framed t (spelled_at r.tables h t v)) (spelled_fields r.tables h ts vs ++ rest) at sound order apart in
-      let size = length-append (framed t (spelled_at r.tables h t v)) (spelled_fields r.tables h ts vs) in
-      let to : at + length (framed t (spelled_at r.tables h t v)) + length (spelled_fields r.tables h ts vs) ≡ at + length (framed t (spelled_at r.tables h t v) ++ spelled_fields r.tables h ts vs) = omega arith in
-      accept_at r h sound v t d w at (spelled_fields r.tables h ts vs ++ rest) order (and_first (fits t v) (fit ts vs) ok) (front_atoms r.tables (atoms_of h t v) (atoms_of_fields h ts vs) has) (and_first (named_at h v) (all_named h vs) names) (λ yes. and_first (is_eager_at v) (are_eager vs) (eager yes)) (omega arith) apart (dues ts d w ++ ds)
-      ∙ accept_fields r h sound vs ts d w (at + length (framed t (spelled_at r.tables h t v))) rest far (and_second (fits t v) (fit ts vs) ok) (back_atoms r.tables (atoms_of h t v) (atoms_of_fields h ts vs) has) (and_second (named_at h v) (all_named h vs) names) (λ yes. and_second (is_eager_at v) (are_eager vs) (eager yes)) (omega arith) behind ds
-      ∙ ap (λ (n : ℕ). fault_from r ds n) to
-
-  pub accept_items : (r : Range) (h : Held) → IsSound r → (vs : Data) (u : Union) (holes : Bool) (d : ℕ) (w : Bool) (at : ℕ) (rest : List ℕ) → at ≤ r.end → items_fit u holes vs ≡ true → list_all (has_atom r.tables) (atoms_of_items h vs) ≡ true → all_named h vs ≡ true → (w ≡ true → are_eager vs ≡ true) → depth_in vs + d ≤ 513 → left r at ≡ spelled_items r.tables h vs ++ rest → (ds : List Due) → fault_from r (dues (times (count vs) (item_type u holes)) d w ++ ds) at ≡ fault_from r ds (at + length (spelled_items r.tables h vs))
-  accept_items r h sound none u holes d w at rest order ok has names eager deep e ds = ap (λ (n : ℕ). fault_from r ds n) (sym (add-zero at))
-  accept_items r h sound (more v vs) u holes d w at rest order ok has names eager deep e ds =
-      let fit_ok = and_first (fits (item_type u holes) v) (items_fit u holes vs) ok in
-      let bytes = spelled_at r.tables h (field.Optional Body) v in
-      let plain : framed (item_type u holes) (spelled_at r.tables h (item_type u holes) v) ≡ spelled_at r.tables h (field.Optional Body) v = framed_item u holes (spelled_at r.tables h (item_type u holes) v) ∙ item_spelled r.tables h u holes v fit_ok in
-      let apart : left r at ≡ spelled_at r.tables h (field.Optional Body) v ++ (spelled_items r.tables h vs ++ rest) = e ∙ append_assoc bytes (spelled_items r.tables h vs) rest in
-      let far = part_within r bytes (spelled_items r.tables h vs ++ rest) at sound order apart in
-      let behind = part_rest r bytes (spelled_items r.tables h vs ++ rest) at sound order apart in
-      let size = length-append bytes (spelled_items r.tables h vs) in
-      let to : at + length (spelled_at r.tables h (field.Optional Body) v) + length (spelled_items r.tables h vs) ≡ at + length (spelled_at r.tables h (field.Optional Body) v ++ spelled_items r.tables h vs) = omega arith in
-      let first = front_atoms r.tables (atoms_of h (field.Optional Body) v) (atoms_of_items h vs) has in
-      let others = dues (times (count vs) (item_type u holes)) d w ++ ds in
-      accept_at r h sound v (item_type u holes) d w at (spelled_items r.tables h vs ++ rest) order fit_ok (ap (list_all (has_atom r.tables)) (sym (item_atoms h u holes v fit_ok)) ∙ first) (and_first (named_at h v) (all_named h vs) names) (λ yes. and_first (is_eager_at v) (are_eager vs) (eager yes)) (omega arith) (apart ∙ ap (λ (b : List ℕ). b ++ (spelled_items r.tables h vs ++ rest)) (sym plain)) others
-      ∙ ap (λ (b : List ℕ). fault_from r others (at + length b)) plain
-      ∙ accept_items r h sound vs u holes d w (at + length bytes) rest far (and_second (fits (item_type u holes) v) (items_fit u holes vs) ok) (back_atoms r.tables (atoms_of h (field.Optional Body) v) (atoms_of_items h vs) has) (and_second (named_at h v) (all_named h vs) names) (λ yes. and_second (is_eager_at v) (are_eager vs) (eager yes)) (omega arith) behind ds
-      ∙ ap (λ (n : ℕ). fault_from r ds n) to
+pub again : (r : Range) (t : FieldType) (d : ℕ) (w : Bool) (at : ℕ) (a : Atom) (es : List Due) (rest : List ℕ) → IsSound r → at ≤ r.end → puts t d w a ≡ Some es → sits 512 true d (length rest) a ≡ true → has_atom r.tables a ≡ true → left r at ≡ spelled_atom r.tables a ++ rest → Again r t d w at a es
+again r (field.Node u) d w at (kind k) es rest sound order p fine has e = kind_again r u false d w at k es rest (has_kind r k sound has) (kind_chosen u d w at _ k es p fine) e
+again r (field.Optional u) d w at (kind k) es rest sound order p fine has e = kind_again r u true d w at k es rest (has_kind r k sound has) (optional_chosen u d w at _ k es (same_kind k Null) refl p fine) e
+again r (field.List u holes filled) d w at (atom.count n) es rest sound order p fine has e = list_again r u holes filled d w at n es rest sound order p fine e
+again r field.Bool d w at (atom.flag b) es rest sound order p fine has e = leaf_again r field.Bool d w at (atom.flag b) es (flag b) refl (same_some [] es p) (flag_again r at b rest sound order e)
+again r field.Index d w at (atom.index n) es rest sound order p fine has e =
+    let g = if_some (ltb n 4294967296) [] es p in
+    leaf_again r field.Index d w at (atom.index n) es (index n) refl g.1 (by_number r field.Index at n (index n) rest (ltb-true _ _ g.0) e refl refl)
+again r field.Whole d w at (atom.whole n) es rest sound order p fine has e =
+    let g = if_some (ltb n 9007199254740992) [] es p in
+    leaf_again r field.Whole d w at (atom.whole n) es (whole n) refl g.1 (whole_again r at n rest sound order (ltb-true _ _ g.0) e)
+again r field.Text d w at (text entry) es rest sound order p fine has e =
+    let g = if_some (is_some entry) [] es p in
+    let there = has_text r entry sound has in
+    leaf_again r field.Text d w at (text entry) es _ refl g.1 (by_number r field.Text at _ _ rest there.small e refl (name_again at _ _ _ entry there.there g.0))
+again r field.Name d w at (text entry) es rest sound order p fine has e =
+    let g = if_some (is_some entry) [] es p in
+    let there = has_text r entry sound has in
+    leaf_again r field.Name d w at (text entry) es _ refl g.1 (by_number r field.Name at _ _ rest there.small e refl (name_again at _ _ _ entry there.there g.0))
+again r field.Label d w at (text entry) es rest sound order p fine has e =
+    let there = has_text r entry sound has in
+    let v = label_again at (text_place r.tables entry) (at + length (varnum (text_place r.tables entry))) _ entry there.there in
+    leaf_again r field.Label d w at (text entry) es v.0 refl (same_some [] es p) (by_number r field.Label at _ v.0 rest there.small e refl v.1)
+again r (field.Choice set) d w at (text (Some bytes)) es rest sound order p fine has e =
+    let g = if_some (is_some (choice_of_text set bytes)) [] es p in
+    let there = has_text r (Some bytes) sound has in
+    let v = choice_again set at (at + length (varnum (text_place r.tables (Some bytes)))) _ bytes (choice_of_text set bytes) there.there refl g.0 in
+    leaf_again r (field.Choice set) d w at (text (Some bytes)) es v.0 refl g.1 (by_number r (field.Choice set) at _ v.0 rest there.small e refl v.1)
+again r (field.Lazy u) d w at (atom.window bytes) es rest sound order p fine has e =
+    let v = lazy_again r u at bytes rest sound order e in leaf_again r (field.Lazy u) d w at (atom.window bytes) es v.0 refl (same_some [] es p) v.1
+again r _ d w at _ es rest sound order p fine has e = absurd cc

@@ -24,13 +24,11 @@ use Rattle.tree_decoder.specs.Outer.{tree_range}
 use Rattle.tree_decoder.specs.Reading.{fault_in, first_fault, tree_fault, IsFileOfScript, IsTreeOf}
 use Rattle.tree_decoder.specs.WholeReading.{Whole, faulty, not_yet, violated, whole, IsWhole}
 use Rattle.tree_decoder.proofs.EagerWhole.{eager_is_whole}
-use Rattle.tree_decoder.proofs.InGrammar.{in_grammar-accepted, read-in_grammar}
+use Rattle.tree_decoder.proofs.InGrammar.{in_grammar-accepted, read-in_grammar, range_sound, file_of, one_tree_in_file}
 use Rattle.tree_decoder.proofs.LazyAtoms.{eager_read}
-use Rattle.tree_decoder.proofs.OneFile.{file_of, one_tree_in_file}
-use Rattle.tree_decoder.proofs.OneTable.{one_over}
+use Rattle.tree_decoder.proofs.OneScript.{one_over}
 use Rattle.tree_decoder.proofs.SameTree.{same_tree}
-use Rattle.tree_decoder.proofs.Sound.{range_sound}
-use Rattle.tree_decoder.proofs.Values.{script_there}
+use Rattle.tree_decoder.proofs.Rows.{script_there}
 use Rattle.violations.specs.Violations.{first_violation, script}
 use Rattle.violations.proofs.Least.{first_violation_is_least}
 

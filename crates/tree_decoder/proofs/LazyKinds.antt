@@ -1,5 +1,5 @@
 -- What a walk over the kinds of a tree comes to.
-use Rattle.std.proofs.Common.{◌≡◌, ℕ, ◌+◌, ◌<◌, Bool, true, false, not, List, [], ◌∷◌, ◌++◌, length, get_or, drop, Some, None, Ok, Err, if◌then◌else◌, cond, refl, ap, arith, length-append}
+use Rattle.std.proofs.Common.{◌≡◌, ℕ, suc, ◌+◌, ◌<◌, Bool, true, false, not, List, [], ◌∷◌, ◌++◌, length, get_or, drop, Option, Some, None, Result, Ok, Err, if◌then◌else◌, cond, refl, sym, ap, ◌∙◌, arith, add-zero, length-append}
 use Rattle.std.specs.List.{position_from}
 use Rattle.bast_schema.specs.declared.kind.Kind.{Kind}
 use Rattle.bast_schema.specs.declared.node.Value.{Value}
@@ -23,54 +23,51 @@ mutual
   kinds_nodes_in (more d ds) = omega (arith, length-append (kinds_at d) (kinds_in ds), kinds_nodes_at d, kinds_nodes_in ds)
 
 -- a walk over all goes on behind one that ended, and stops where one did
-ended_before : (b : Bool) (n m : ℕ) (ks ls : List Kind) → (if b then walked (n + 1) ks else Err n) ≡ Ok m → (walked (n + 1) ks ≡ Ok m → walked (n + 1) (ks ++ ls) ≡ walked m ls) → (if b then walked (n + 1) (ks ++ ls) else Err n) ≡ walked m ls
-ended_before true n m ks ls is rest = rest is
-ended_before false n m ks ls is rest = cc
+abbrev then_walked : Result ℕ ℕ → List Kind → Result ℕ ℕ
+then_walked (Ok m) ls = walked m ls
+then_walked (Err e) ls = Err e
 
-pub walked_on : (n m : ℕ) (ks ls : List Kind) → walked n ks ≡ Ok m → walked n (ks ++ ls) ≡ walked m ls
-walked_on n m [] ls is = let same : n ≡ m = cc in ap (λ (x : ℕ). walked x ls) same
-walked_on n m (k ∷ ks) ls is = ended_before (is_eager_kind k) n m ks ls is (walked_on (n + 1) m ks ls)
+goes_on : (b : Bool) (n : ℕ) (ks ls : List Kind) → walked (n + 1) (ks ++ ls) ≡ then_walked (walked (n + 1) ks) ls → (if b then walked (n + 1) (ks ++ ls) else Err n) ≡ then_walked (if b then walked (n + 1) ks else Err n) ls
+goes_on true n ks ls rest = rest
+goes_on false n ks ls rest = refl
 
-stopped_before : (b : Bool) (n e : ℕ) (ks ls : List Kind) → (if b then walked (n + 1) ks else Err n) ≡ Err e → (walked (n + 1) ks ≡ Err e → walked (n + 1) (ks ++ ls) ≡ Err e) → (if b then walked (n + 1) (ks ++ ls) else Err n) ≡ Err e
-stopped_before true n e ks ls is rest = rest is
-stopped_before false n e ks ls is rest = is
+walked_both : (n : ℕ) (ks ls : List Kind) → walked n (ks ++ ls) ≡ then_walked (walked n ks) ls
+walked_both n [] ls = refl
+walked_both n (k ∷ ks) ls = goes_on (is_eager_kind k) n ks ls (walked_both (n + 1) ks ls)
 
-pub walked_no_further : (n e : ℕ) (ks ls : List Kind) → walked n ks ≡ Err e → walked n (ks ++ ls) ≡ Err e
-walked_no_further n e [] ls is = cc
-walked_no_further n e (k ∷ ks) ls is = stopped_before (is_eager_kind k) n e ks ls is (walked_no_further (n + 1) e ks ls)
+-- a walk ends behind as many nodes as there are where no kind is lazy, and else at the first of a lazy kind
+abbrev answer_of : ℕ → Option ℕ → Result ℕ ℕ
+answer_of n None = Ok n
+answer_of n (Some e) = Err e
 
--- a walk that ended has counted each node
-counted_before : (b : Bool) (n m : ℕ) (k : Kind) (ks : List Kind) → (if b then walked (n + 1) ks else Err n) ≡ Ok m → (walked (n + 1) ks ≡ Ok m → m ≡ n + 1 + length ks) → m ≡ n + length (k ∷ ks)
-counted_before true n m k ks is rest = let r : m ≡ n + 1 + length ks = rest is in omega arith
-counted_before false n m k ks is rest = cc
+answers : (b : Bool) (n size : ℕ) (r : Result ℕ ℕ) (o : Option ℕ) → r ≡ answer_of (n + 1 + size) o → (if b then r else Err n) ≡ answer_of (n + suc size) (cond (not b) (Some n) o)
+answers true n size r o is = let same : n + 1 + size ≡ n + suc size = omega arith in is ∙ ap (λ (m : ℕ). answer_of m o) same
+answers false n size r o is = refl
 
-pub walked_count : (n m : ℕ) (ks : List Kind) → walked n ks ≡ Ok m → m ≡ n + length ks
-walked_count n m [] is = let same : n ≡ m = cc in omega arith
-walked_count n m (k ∷ ks) is = counted_before (is_eager_kind k) n m k ks is (walked_count (n + 1) m ks)
+walked_is : (n : ℕ) (ks : List Kind) → walked n ks ≡ answer_of (n + length ks) (position_from (λ k. not (is_eager_kind k)) n ks)
+walked_is n [] = ap (λ (m : ℕ). answer_of m None) (sym (add-zero n))
+walked_is n (k ∷ ks) = answers (is_eager_kind k) n (length ks) (walked (n + 1) ks) (position_from (λ k. not (is_eager_kind k)) (n + 1) ks) (walked_is (n + 1) ks)
 
--- a walk that ended met no lazy kind, and one that stopped did so at the first of them
-none_before : (b : Bool) (n m : ℕ) (ks : List Kind) → (if b then walked (n + 1) ks else Err n) ≡ Ok m → (walked (n + 1) ks ≡ Ok m → position_from (λ k. not (is_eager_kind k)) (n + 1) ks ≡ None) → cond (not b) (Some n) (position_from (λ k. not (is_eager_kind k)) (n + 1) ks) ≡ None
-none_before true n m ks is rest = rest is
-none_before false n m ks is rest = cc
+ended : (n m : ℕ) (o : Option ℕ) → answer_of n o ≡ Ok m → (o ≡ None) × (m ≡ n)
+ended n m None e = (refl, cc)
+ended n m (Some x) e = absurd cc
+
+stopped : (n e : ℕ) (o : Option ℕ) → answer_of n o ≡ Err e → o ≡ Some e
+stopped n e None is = absurd cc
+stopped n e (Some x) is = let same : x ≡ e = cc in ap Some same
 
 pub walked_none : (n m : ℕ) (ks : List Kind) → walked n ks ≡ Ok m → position_from (λ k. not (is_eager_kind k)) n ks ≡ None
-walked_none n m [] is = refl
-walked_none n m (k ∷ ks) is = none_before (is_eager_kind k) n m ks is (walked_none (n + 1) m ks)
-
-some_before : (b : Bool) (n e : ℕ) (ks : List Kind) → (if b then walked (n + 1) ks else Err n) ≡ Err e → (walked (n + 1) ks ≡ Err e → position_from (λ k. not (is_eager_kind k)) (n + 1) ks ≡ Some e) → cond (not b) (Some n) (position_from (λ k. not (is_eager_kind k)) (n + 1) ks) ≡ Some e
-some_before true n e ks is rest = rest is
-some_before false n e ks is rest = let same : n ≡ e = cc in ap Some same
+walked_none n m ks is = (ended (n + length ks) m _ (sym (walked_is n ks) ∙ is)).0
 
 pub walked_some : (n e : ℕ) (ks : List Kind) → walked n ks ≡ Err e → position_from (λ k. not (is_eager_kind k)) n ks ≡ Some e
-walked_some n e [] is = cc
-walked_some n e (k ∷ ks) is = some_before (is_eager_kind k) n e ks is (walked_some (n + 1) e ks)
+walked_some n e ks is = stopped (n + length ks) e _ (sym (walked_is n ks) ∙ is)
 
 -- what is left of a walk over values, where one of them was walked
 pub values_on : (vs : List Value) (i : ℕ) (v : Value) (n m : ℕ) → v ≡ get_or vs i v → i < length vs → walked n (kinds_at (datum v)) ≡ Ok m → walked n (kinds_in (data_of (drop i vs))) ≡ walked m (kinds_in (data_of (drop (i + 1) vs)))
-values_on vs i v n m at within is = rw (data_of_drop vs i v at within) (walked_on n m (kinds_at (datum v)) (kinds_in (data_of (drop (i + 1) vs))) is)
+values_on vs i v n m at within is = rw (data_of_drop vs i v at within) (walked_both n (kinds_at (datum v)) (kinds_in (data_of (drop (i + 1) vs))) ∙ ap (λ r. then_walked r (kinds_in (data_of (drop (i + 1) vs)))) is)
 
 pub values_no_further : (vs : List Value) (i : ℕ) (v : Value) (n e : ℕ) → v ≡ get_or vs i v → i < length vs → walked n (kinds_at (datum v)) ≡ Err e → walked n (kinds_in (data_of (drop i vs))) ≡ Err e
-values_no_further vs i v n e at within is = rw (data_of_drop vs i v at within) (walked_no_further n e (kinds_at (datum v)) (kinds_in (data_of (drop (i + 1) vs))) is)
+values_no_further vs i v n e at within is = rw (data_of_drop vs i v at within) (walked_both n (kinds_at (datum v)) (kinds_in (data_of (drop (i + 1) vs))) ∙ ap (λ r. then_walked r (kinds_in (data_of (drop (i + 1) vs)))) is)
 
 pub value_count : (v : Value) (n m : ℕ) → walked n (kinds_at (datum v)) ≡ Ok m → m ≡ n + nodes_at (datum v)
-value_count v n m is = omega (arith, walked_count n m (kinds_at (datum v)) is, kinds_nodes_at (datum v))
+value_count v n m is = omega (arith, (ended (n + length (kinds_at (datum v))) m _ (sym (walked_is n (kinds_at (datum v))) ∙ is)).1, kinds_nodes_at (datum v))

@@ -1,12 +1,10 @@
 -- What is read of a node and of a list.
-use Rattle.std.proofs.Common.{ℕ, zero, suc, ◌+◌, ◌-◌, ◌≤◌, ◌≡◌, Bool, true, false, not, ◌&&◌, ◌||◌, cond, ltb, eqb, List, [], ◌∷◌, ◌++◌, length, Option, Some, None, Result, Ok, Err, refl, sym, ap, subst, ◌∙◌, arith, append_assoc, slice_get}
+use Rattle.std.proofs.Common.{ℕ, zero, suc, ◌+◌, ◌-◌, ◌≤◌, ◌≡◌, Bool, true, false, not, ◌&&◌, ◌||◌, cond, ltb, eqb, List, [], ◌∷◌, ◌++◌, length, Option, Some, None, Result, Ok, Err, refl, sym, ap, subst, ◌∙◌, arith, append_assoc, ◌<◌, take, drop, get_or, append-nil, drop-cons, add-one, zero-add}
 use Rattle.std.specs.List.{list_all}
-use Rattle.std.specs.Option.{unwrap_or}
 use Rattle.std.proofs.lemmas.Bool.{ltb-false}
 use Rattle.bast_base.specs.declared.errors.FormatFault.{FormatFault}
 use Rattle.bast_base.specs.declared.errors.Halt.{Halt}
 use Rattle.bast_base.specs.declared.errors.Halt.TheVariants.{Memory, Format}
-use Rattle.bast_base.specs.declared.errors.Why.TheVariants.{BadKind, EmptyList, TooDeep}
 use Rattle.var_numbers.specs.Varnum.{varnum}
 use Rattle.bast_schema.specs.declared.kind.FieldType.{FieldType}
 use Rattle.bast_schema.specs.declared.kind.FieldType.TheVariants as field
@@ -15,15 +13,13 @@ use Rattle.bast_schema.specs.declared.kind.Kind.TheVariants.{Null}
 use Rattle.bast_schema.specs.declared.kind.Union.{Union}
 use Rattle.bast_schema.specs.declared.kind.Union.TheVariants.{Body}
 use Rattle.bast_schema.specs.declared.node.NodeFault.{NodeFault}
-use Rattle.bast_schema.specs.Fields.{fields, has_lazy}
+use Rattle.bast_schema.specs.Fields.{fields}
 use Rattle.bast_schema.specs.Held.{Held}
-use Rattle.bast_schema.specs.Kinds.{counted, same_kind}
+use Rattle.bast_schema.specs.Kinds.{counted}
 use Rattle.bast_schema.specs.Made.{node_of}
 use Rattle.bast_schema.specs.Tree.{Tree, branch, Datum, child, absent, listed, choice, Data, none, more, fits, fit, items_fit, item_type, is_none, count, depth, depth_in, typed, kind_of}
 use Rattle.bast_schema.specs.Unions.{allowed}
 use Rattle.bast_schema.proofs.Both.{and_first, and_second, both}
-use Rattle.bast_schema.proofs.Distinct.{place_of_at}
-use Rattle.bast_schema.proofs.EachKind.{same_kind_self, same_kind_true}
 use Rattle.bast_schema.proofs.Lists.{count_fit}
 use Rattle.bast_schema.proofs.Typed.{made_where_fit}
 use Rattle.container.specs.Atoms as atom
@@ -32,97 +28,147 @@ use Rattle.container.specs.InFile.{has_atom}
 use Rattle.container.specs.Spelled.{framed, spelled, spelled_at, spelled_items, spelled_fields}
 use Rattle.container.specs.Tables.{Tables, kind_place}
 use Rattle.tree_decoder.specs.Dues.{Due, due, dues, times, below, children, taken, atom_of}
-use Rattle.tree_decoder.specs.Found.{Found, Run, Fails, Spent, SpentFails}
+use Rattle.tree_decoder.specs.Found.{Found, Run, Fails, Spent, SpentFails, stands_at, all_stand}
 use Rattle.container.specs.Folded.{is_folded, folded_at, folded_fields, folded_items}
-use Rattle.container.specs.Answers.{fault, ◌>>=◌}
-use Rattle.tree_decoder.specs.Numbers.{number_from, judged, kind_of_number, kind_at, count_at}
-use Rattle.tree_decoder.specs.Outcome.{Outcome, ends, outcome_from}
+use Rattle.container.specs.Answers.{◌>>=◌}
+use Rattle.tree_decoder.specs.Numbers.{kind_at, count_at, leaf_at, is_leaf}
+use Rattle.tree_decoder.specs.Outcome.{Outcome, outcome_from, behind}
 use Rattle.tree_decoder.specs.Range.{Range, IsSound, held, left}
-use Rattle.tree_decoder.proofs.Machine.{from_step, from_fails}
-use Rattle.tree_decoder.proofs.Moves.{kind_moves, count_moves}
-use Rattle.tree_decoder.proofs.Single.{any_at}
-use Rattle.tree_decoder.proofs.Spells.{bind_ok, guard_ok, is_ok, ok_is, number_spells}
+use Rattle.tree_decoder.specs.Windows.{windows_at, windows_in, skipped}
+use Rattle.tree_decoder.proofs.Machine.{from_step, from_fails, atom_moves, count_stands, kind_stands, skipped_both, skips_within}
+use Rattle.tree_decoder.proofs.Single.{leaf_atom, leaf_stands, is_ok}
+use Rattle.std.proofs.lemmas.List.{take-append-drop}
+use Rattle.std.proofs.lemmas.List.Folds.{list_all-append}
+use Rattle.bast_schema.specs.declared.node.Value.{Value}
+use Rattle.bast_schema.specs.Counts.{join}
+use Rattle.bast_schema.specs.View.{datum, data_of}
+use Rattle.bast_schema.proofs.Sums.{data_of_append}
 
--- ---- kinds
+-- ---- what is read, value after value
 
-pub record Judged (u : Union) (d next : ℕ) (w : Bool) (j k : Kind) (m : ℕ) : Type 0 where
-  pub same : j ≡ k
-  pub place : next ≡ m
-  pub allowed : allowed u k ≡ true
-  pub plain : (w && has_lazy k) ≡ false
-  pub shallow : (counted k && ltb 512 d) ≡ false
+pub behind_both : (ws us : List (ℕ × ℕ)) (o : Outcome) → behind ws (behind us o) ≡ behind (ws ++ us) o
+behind_both ws us o = let as_outcome : List (ℕ × ℕ) → Outcome = λ xs. record { windows = xs; fault = o.fault } in ap as_outcome (sym (append_assoc ws us o.windows))
 
-neither : (a b : Bool) → (not a || b) ≡ false → (a ≡ true) × (b ≡ false)
-neither true b e = (refl, e)
-neither false b e = absurd cc
+dues_both : (front back : List FieldType) (d : ℕ) (w : Bool) (ds : List Due) → dues (front ++ back) d w ++ ds ≡ dues front d w ++ (dues back d w ++ ds)
+dues_both [] back d w ds = refl
+dues_both (u ∷ front) back d w ds = ap (λ es. due u d w ∷ es) (dues_both front back d w ds)
 
-judged_some : (u : Union) (d : ℕ) (w : Bool) (at next : ℕ) (j k : Kind) (m : ℕ) → judged u d w at next j ≡ Ok (Some k, m) → Judged u d next w j k m
-judged_some u d w at next j k m e =
-    let g = guard_ok (not (allowed u j) || (w && has_lazy j)) (fault at BadKind) (cond (counted j && ltb 512 d) (Err (fault at TooDeep)) (Ok (Some j, next))) (Some k, m) e in
-    let h = guard_ok (counted j && ltb 512 d) (fault at TooDeep) (Ok (Some j, next)) (Some k, m) g.1 in
-    let is : (Some j, next) ≡ (Some k, m) = ok_is _ _ h.1 in
-    let kind : Some j ≡ Some k = ap (λ (p : Option Kind × ℕ). p.0) is in
-    let same : j ≡ k = cc in
-    record { same = same; place = ap (λ (p : Option Kind × ℕ). p.1) is; allowed = rw (← same) (neither (allowed u j) (w && has_lazy j) g.0).0; plain = rw (← same) (neither (allowed u j) (w && has_lazy j) g.0).1; shallow = rw (← same) h.0 }
+windows_both : (vs ws : Data) → windows_in (join vs ws) ≡ windows_in vs ++ windows_in ws
+windows_both none ws = refl
+windows_both (more v vs) ws = ap (λ us. windows_at v ++ us) (windows_both vs ws) ∙ sym (append_assoc (windows_at v) (windows_in vs) (windows_in ws))
 
-judged_none : (u : Union) (d : ℕ) (w : Bool) (at next : ℕ) (j : Kind) (m : ℕ) → judged u d w at next j ≡ Ok (None, m) → ⊥
-judged_none u d w at next j m e =
-    let g = guard_ok (not (allowed u j) || (w && has_lazy j)) (fault at BadKind) (cond (counted j && ltb 512 d) (Err (fault at TooDeep)) (Ok (Some j, next))) (None, m) e in
-    let h = guard_ok (counted j && ltb 512 d) (fault at TooDeep) (Ok (Some j, next)) (None, m) g.1 in
-    let is : (Some j, next) ≡ (None, m) = ok_is _ _ h.1 in
-    let kind : Some j ≡ None = ap (λ (p : Option Kind × ℕ). p.0) is in
-    cc
+pub run_none : (r : Range) (d : ℕ) (w : Bool) (at : ℕ) → d ≤ 513 → at ≤ r.end → Run r [] d w at none at
+run_none r d w at h k = record { goes_on = λ ds. refl; spelled = refl; fits = refl; depth = omega arith; stands = refl; has_all = refl; folded = refl; forward = omega arith; within = k }
 
-chose_kind : (b : Bool) (u : Union) (d : ℕ) (w : Bool) (at next : ℕ) (j k : Kind) (m : ℕ) → cond b (is_ok (None, next)) (judged u d w at next j) ≡ Ok (Some k, m) → Judged u d next w j k m
-chose_kind true u d w at next j k m e = let is : (None, next) ≡ (Some k, m) = ok_is _ _ e in let kind : None ≡ Some k = ap (λ (p : Option Kind × ℕ). p.0) is in absurd cc
-chose_kind false u d w at next j k m e = judged_some u d w at next j k m e
+-- one value, and those of the types after it
+pub run_cons : (r : Range) (t : FieldType) (ts : List FieldType) (d : ℕ) (w : Bool) (a b c : ℕ) (v : Datum) (vs : Data) → Found r t d w a v b → Run r ts d w b vs c → Run r (t ∷ ts) d w a (more v vs) c
+run_cons r t ts d w a b c v vs f run =
+    let first = framed t (spelled_at r.tables (held r) t v) in
+    record {
+      goes_on = λ ds. f.goes_on (dues ts d w ++ ds) ∙ ap (behind (windows_at v)) (run.goes_on ds) ∙ behind_both (windows_at v) (windows_in vs) (outcome_from r ds c);
+      spelled = f.spelled ∙ ap (λ x. first ++ x) run.spelled ∙ sym (append_assoc first (spelled_fields r.tables (held r) ts vs) (left r c));
+      fits = both (fits t v) (fit ts vs) f.fits run.fits;
+      depth = omega (arith, f.depth, run.depth);
+      stands = both (stands_at r v) (all_stand r vs) f.stands run.stands;
+      has_all = list_all-append (has_atom r.tables) (atoms_of (held r) t v) (atoms_of_fields (held r) ts vs) ∙ both _ _ f.has_all run.has_all;
+      folded = both (is_folded t v) (folded_at v && folded_fields ts vs) (and_first (is_folded t v) (folded_at v) f.folded) (both (folded_at v) (folded_fields ts vs) (and_second (is_folded t v) (folded_at v) f.folded) run.folded);
+      forward = omega (arith, f.forward, run.forward);
+      within = run.within;
+    }
 
-chose_absent : (b : Bool) (u : Union) (d : ℕ) (w : Bool) (at next : ℕ) (j : Kind) (m : ℕ) → cond b (is_ok (None, next)) (judged u d w at next j) ≡ Ok (None, m) → (b ≡ true) × (next ≡ m)
-chose_absent true u d w at next j m e = (refl, ap (λ (p : Option Kind × ℕ). p.1) (ok_is _ _ e))
-chose_absent false u d w at next j m e = absurd (judged_none u d w at next j m e)
+-- values one after another, each found where the one before it ended
+abbrev pub Chain : Range → List FieldType → ℕ → Bool → ℕ → Data → ℕ → Type 0
+Chain r [] d w at none next = at ≡ next
+Chain r (t ∷ ts) d w at (more v vs) next = (mid : ℕ) × Found r t d w at v mid × Chain r ts d w mid vs next
+Chain r _ d w at _ next = ⊥
 
-numbered_kind : (o : Option Kind) (u : Union) (optional : Bool) (d : ℕ) (w : Bool) (at next : ℕ) (k : Kind) (m : ℕ) → kind_of_number u optional d w at next o ≡ Ok (Some k, m) → (j : Kind) × (o ≡ Some j) × Judged u d next w j k m
-numbered_kind None u optional d w at next k m e = absurd cc
-numbered_kind (Some j) u optional d w at next k m e = (j, refl, chose_kind (optional && same_kind j Null) u d w at next j k m e)
+pub chain_run : (r : Range) (ts : List FieldType) (d : ℕ) (w : Bool) (a c : ℕ) (vs : Data) → d ≤ 513 → a ≤ r.end → Chain r ts d w a vs c → Run r ts d w a vs c
+chain_run r [] d w a c none small order chain = subst (λ (n : ℕ). Run r [] d w a none n) chain (run_none r d w a small order)
+chain_run r (t ∷ ts) d w a c (more v vs) small order chain = run_cons r t ts d w a chain.0 c v vs chain.1 (chain_run r ts d w chain.0 c vs small chain.1.within chain.2)
+chain_run r _ d w a c _ small order chain = absurd chain
 
-numbered_absent : (o : Option Kind) (u : Union) (optional : Bool) (d : ℕ) (w : Bool) (at next : ℕ) (m : ℕ) → kind_of_number u optional d w at next o ≡ Ok (None, m) → (j : Kind) × (o ≡ Some j) × (((optional && same_kind j Null) ≡ true) × (next ≡ m))
-numbered_absent None u optional d w at next m e = absurd cc
-numbered_absent (Some j) u optional d w at next m e = (j, refl, chose_absent (optional && same_kind j Null) u d w at next j m e)
+chain_push : (r : Range) (ts : List FieldType) (t : FieldType) (d : ℕ) (w : Bool) (a b c : ℕ) (vs : Data) (v : Datum) → Chain r ts d w a vs b → Found r t d w b v c → Chain r (ts ++ t ∷ []) d w a (join vs (more v none)) c
+chain_push r [] t d w a b c none v chain f = (c, subst (λ (n : ℕ). Found r t d w n v c) (sym chain) f, refl)
+chain_push r (u ∷ ts) t d w a b c (more o os) v chain f = (chain.0, chain.1, chain_push r ts t d w chain.0 b c os v chain.2 f)
+chain_push r _ t d w a b c _ v chain f = absurd chain
 
--- a kind that is read stands in the table
-kind_has : (r : Range) (n : ℕ) (k : Kind) → slice_get r.tables.kinds n ≡ Some k → has_atom r.tables (atom.kind k) ≡ true
-kind_has r n k is = any_at (λ j. same_kind j k) r.tables.kinds n k is (same_kind_self k)
+-- one value after those of several types
+pub chain_more : (r : Range) (ts : List FieldType) (t : FieldType) (d : ℕ) (w : Bool) (a b c : ℕ) (vs : List Value) (v : Value) → Chain r ts d w a (data_of vs) b → Found r t d w b (datum v) c → Chain r (ts ++ t ∷ []) d w a (data_of (vs ++ v ∷ [])) c
+chain_more r ts t d w a b c vs v chain f = subst (λ (us : Data). Chain r (ts ++ t ∷ []) d w a us c) (sym (data_of_append vs (v ∷ []))) (chain_push r ts t d w a b c (data_of vs) (datum v) chain f)
 
--- a kind is spelled by its number
-kind_here : (r : Range) (n : ℕ) (k : Kind) → IsSound r → slice_get r.tables.kinds n ≡ Some k → kind_place r.tables k ≡ n
-kind_here r n k sound is = ap (λ (o : Option ℕ). unwrap_or o (length r.tables.kinds)) (place_of_at r.tables.kinds k n sound.kinds is)
+pub windows_more : (vs : List Value) (v : Value) → windows_in (data_of (vs ++ v ∷ [])) ≡ windows_in (data_of vs) ++ windows_at (datum v)
+windows_more vs v = ap windows_in (data_of_append vs (v ∷ [])) ∙ windows_both (data_of vs) (more (datum v) none) ∙ ap (λ ws. windows_in (data_of vs) ++ ws) (append-nil (windows_at (datum v)))
 
-spelled_as : (r : Range) (at n next m p : ℕ) → m ≡ n → next ≡ p → left r at ≡ varnum n ++ left r next → left r at ≡ varnum m ++ left r p
-spelled_as r at n next m p same on e = e ∙ ap (λ (k : ℕ). varnum k ++ left r next) (sym same) ∙ ap (λ (k : ℕ). varnum m ++ left r k) on
+pub spent_more : (vs : List Value) (v : Value) (a b c old mid new : ℕ) → a ≤ b → b ≤ c → Spent (windows_in (data_of vs)) a b old mid → Spent (windows_at (datum v)) b c mid new → Spent (windows_in (data_of (vs ++ v ∷ []))) a c old new
+spent_more vs v a b c old mid new h k s t =
+    let more : skipped (windows_in (data_of (vs ++ v ∷ []))) ≡ skipped (windows_in (data_of vs)) + skipped (windows_at (datum v)) = ap skipped (windows_more vs v) ∙ skipped_both (windows_in (data_of vs)) (windows_at (datum v)) in
+    omega arith
 
-pub record KindStands (r : Range) (u : Union) (d : ℕ) (w : Bool) (at : ℕ) (k : Kind) (m : ℕ) : Type 0 where
-  pub spelled : left r at ≡ varnum (kind_place r.tables k) ++ left r m
-  pub allowed : allowed u k ≡ true
-  pub plain : (w && has_lazy k) ≡ false
-  pub shallow : (counted k && ltb 512 d) ≡ false
-  pub has : has_atom r.tables (atom.kind k) ≡ true
+-- ---- a failure after some values
 
-pub kind_stands : (r : Range) (u : Union) (optional : Bool) (d : ℕ) (w : Bool) (at : ℕ) (k : Kind) (m : ℕ) → IsSound r → at ≤ r.end → kind_at r u optional d w at ≡ Ok (Some k, m) → KindStands r u d w at k m
-unfolding kind_at
-kind_stands r u optional d w at k m sound order e =
-    let b = bind_ok (number_from r at) (λ n. kind_of_number u optional d w at n.1 (slice_get r.tables.kinds n.0)) (Some k, m) e in
-    let j = numbered_kind (slice_get r.tables.kinds b.0.0) u optional d w at b.0.1 k m b.2 in
-    let place : kind_place r.tables k ≡ b.0.0 = ap (kind_place r.tables) (sym j.2.same) ∙ kind_here r b.0.0 j.0 sound j.1 in
-    record { spelled = spelled_as r at b.0.0 b.0.1 (kind_place r.tables k) m place j.2.place (number_spells r at b.0 sound order b.1).front; allowed = j.2.allowed; plain = j.2.plain; shallow = j.2.shallow; has = ap (λ (i : Kind). has_atom r.tables (atom.kind i)) (sym j.2.same) ∙ kind_has r b.0.0 j.0 j.1 }
+-- what comes of several types, after the first of them were found
+pub run_goes : (r : Range) (front back : List FieldType) (d : ℕ) (w : Bool) (a b : ℕ) (vs : Data) (ds : List Due) → Run r front d w a vs b → outcome_from r (dues (front ++ back) d w ++ ds) a ≡ behind (windows_in vs) (outcome_from r (dues back d w ++ ds) b)
+run_goes r front back d w a b vs ds run = ap (λ es. outcome_from r es a) (dues_both front back d w ds) ∙ run.goes_on (dues back d w ++ ds)
 
-pub absent_stands : (r : Range) (u : Union) (optional : Bool) (d : ℕ) (w : Bool) (at m : ℕ) → IsSound r → at ≤ r.end → kind_at r u optional d w at ≡ Ok (None, m) → (left r at ≡ varnum (kind_place r.tables Null) ++ left r m) × (optional ≡ true) × (has_atom r.tables (atom.kind Null) ≡ true)
-unfolding kind_at
-absent_stands r u optional d w at m sound order e =
-    let b = bind_ok (number_from r at) (λ n. kind_of_number u optional d w at n.1 (slice_get r.tables.kinds n.0)) (None, m) e in
-    let j = numbered_absent (slice_get r.tables.kinds b.0.0) u optional d w at b.0.1 m b.2 in
-    let null : j.0 ≡ Null = same_kind_true j.0 Null (and_second optional (same_kind j.0 Null) j.2.0) in
-    let place : kind_place r.tables Null ≡ b.0.0 = ap (kind_place r.tables) (sym null) ∙ kind_here r b.0.0 j.0 sound j.1 in
-    (spelled_as r at b.0.0 b.0.1 (kind_place r.tables Null) m place j.2.1 (number_spells r at b.0 sound order b.1).front, and_first optional (same_kind j.0 Null) j.2.0, ap (λ (i : Kind). has_atom r.tables (atom.kind i)) (sym null) ∙ kind_has r b.0.0 j.0 j.1)
+pub run_fails : (r : Range) (front : List FieldType) (t : FieldType) (back : List FieldType) (d : ℕ) (w : Bool) (a b : ℕ) (vs : Data) (e : Halt) → Run r front d w a vs b → Fails r (due t d w ∷ []) b e → Fails r (dues (front ++ t ∷ back) d w) a e
+run_fails r front t back d w a b vs Memory run f = tt
+run_fails r front t back d w a b vs (Format x) run f = λ ds. ap (λ (o : Outcome). o.fault) (run_goes r front (t ∷ back) d w a b vs ds run) ∙ f (dues back d w ++ ds)
+
+spent_behind : (ws : List (ℕ × ℕ)) (o : Outcome) (a b end old mid new : ℕ) → a ≤ b → b ≤ end → Spent ws a b old mid → Spent o.windows b end mid new → Spent (behind ws o).windows a end old new
+spent_behind ws o a b end old mid new h k s t = let both : skipped (ws ++ o.windows) ≡ skipped ws + skipped o.windows = skipped_both ws o.windows in omega arith
+
+pub run_spends : (r : Range) (front : List FieldType) (t : FieldType) (back : List FieldType) (d : ℕ) (w : Bool) (a b : ℕ) (vs : Data) (old mid new : ℕ) → Run r front d w a vs b → Spent (windows_in vs) a b old mid → SpentFails r (due t d w ∷ []) b mid new → SpentFails r (dues (front ++ t ∷ back) d w) a old new
+run_spends r front t back d w a b vs old mid new run s f = λ ds.
+    subst (λ (o : Outcome). Spent o.windows a r.end old new) (sym (run_goes r front (t ∷ back) d w a b vs ds run))
+    (spent_behind (windows_in vs) (outcome_from r (due t d w ∷ (dues back d w ++ ds)) b) a b r.end old mid new run.forward run.within s (f (dues back d w ++ ds)))
+
+-- a run that is given up with no fault
+pub run_stops : (r : Range) (front back : List FieldType) (d : ℕ) (w : Bool) (a b : ℕ) (vs : Data) (old new : ℕ) → IsSound r → Run r front d w a vs b → Spent (windows_in vs) a b old new → SpentFails r (dues (front ++ back) d w) a old new
+run_stops r front back d w a b vs old new sound run s = λ ds.
+    let others : skipped (outcome_from r (dues back d w ++ ds) b).windows ≤ r.end - b = skips_within r (dues back d w ++ ds) b sound run.within in
+    let rest : Spent (outcome_from r (dues back d w ++ ds) b).windows b r.end new new = omega arith in
+    subst (λ (o : Outcome). Spent o.windows a r.end old new) (sym (run_goes r front back d w a b vs ds run))
+    (spent_behind (windows_in vs) (outcome_from r (dues back d w ++ ds) b) a b r.end old new new run.forward run.within s rest)
+
+-- ---- the types of fields, up to a place
+
+pub take_split : (ts : List FieldType) (i : ℕ) (t : FieldType) → i < length ts → take i ts ++ get_or ts i t ∷ drop (i + 1) ts ≡ ts
+take_split ts i t lt = ap (λ back. take i ts ++ back) (sym (rw add-one (drop-cons ts i t lt))) ∙ take-append-drop i ts
+
+pub fails_at : (r : Range) (ts front : List FieldType) (t : FieldType) (back : List FieldType) (d : ℕ) (w : Bool) (a b : ℕ) (vs : Data) (e : Halt) → front ++ t ∷ back ≡ ts → d ≤ 513 → a ≤ r.end → Chain r front d w a vs b → Fails r (due t d w ∷ []) b e → Fails r (dues ts d w) a e
+fails_at r ts front t back d w a b vs e split small order chain f = subst (λ (us : List FieldType). Fails r (dues us d w) a e) split (run_fails r front t back d w a b vs e (chain_run r front d w a b vs small order chain) f)
+
+pub spends_at : (r : Range) (ts front : List FieldType) (t : FieldType) (back : List FieldType) (d : ℕ) (w : Bool) (a b : ℕ) (vs : Data) (old mid new : ℕ) → front ++ t ∷ back ≡ ts → d ≤ 513 → a ≤ r.end → Chain r front d w a vs b → Spent (windows_in vs) a b old mid → SpentFails r (due t d w ∷ []) b mid new → SpentFails r (dues ts d w) a old new
+spends_at r ts front t back d w a b vs old mid new split small order chain s f = subst (λ (us : List FieldType). SpentFails r (dues us d w) a old new) split (run_spends r front t back d w a b vs old mid new (chain_run r front d w a b vs small order chain) s f)
+
+pub stops_at : (r : Range) (ts front : List FieldType) (t : FieldType) (back : List FieldType) (d : ℕ) (w : Bool) (a b c : ℕ) (vs : List Value) (v : Value) (old mid new : ℕ) → IsSound r → front ++ t ∷ back ≡ ts → d ≤ 513 → a ≤ r.end → Chain r front d w a (data_of vs) b → Spent (windows_in (data_of vs)) a b old mid → Found r t d w b (datum v) c → Spent (windows_at (datum v)) b c mid new → SpentFails r (dues ts d w) a old new
+stops_at r ts front t back d w a b c vs v old mid new sound split small order chain s f g =
+    let on = (chain_run r front d w a b (data_of vs) small order chain).forward in
+    let all = chain_run r (front ++ t ∷ []) d w a c (data_of (vs ++ v ∷ [])) small order (chain_more r front t d w a b c vs v chain f) in
+    let spent = spent_more vs v a b c old mid new on (omega (arith, f.forward)) s g in
+    subst (λ (us : List FieldType). SpentFails r (dues us d w) a old new) (append_assoc front (t ∷ []) back ∙ split) (run_stops r (front ++ t ∷ []) back d w a c (data_of (vs ++ v ∷ [])) old new sound all spent)
+
+-- ---- a type a number of times
+
+times_more : (n : ℕ) (t : FieldType) → times (suc n) t ≡ times n t ++ t ∷ []
+times_more zero t = refl
+times_more (suc n) t = ap (λ ts. t ∷ ts) (times_more n t)
+
+-- one more value of a type that was read a number of times
+pub chain_times : (r : Range) (i : ℕ) (t : FieldType) (d : ℕ) (w : Bool) (a b c : ℕ) (vs : List Value) (v : Value) → Chain r (times i t) d w a (data_of vs) b → Found r t d w b (datum v) c → Chain r (times (i + 1) t) d w a (data_of (vs ++ v ∷ [])) c
+chain_times r i t d w a b c vs v chain f =
+    let next : suc i ≡ i + 1 = omega arith in
+    subst (λ (ts : List FieldType). Chain r ts d w a (data_of (vs ++ v ∷ [])) c) (sym (times_more i t) ∙ ap (λ n. times n t) next) (chain_more r (times i t) t d w a b c vs v chain f)
+
+suc_plus : (n m : ℕ) → suc n + m ≡ suc (n + m)
+suc_plus n m = omega arith
+
+times_split : (n m : ℕ) (t : FieldType) → times (n + suc m) t ≡ times n t ++ t ∷ times m t
+times_split zero m t = ap (λ k. times k t) (zero-add (suc m))
+times_split (suc n) m t = ap (λ k. times k t) (suc_plus n (suc m)) ∙ ap (λ ts. t ∷ ts) (times_split n m t)
+
+pub times_at : (n i : ℕ) (t : FieldType) → i < n → times i t ++ t ∷ times (n - suc i) t ≡ times n t
+times_at n i t lt = let m : i + suc (n - suc i) ≡ n = omega arith in sym (times_split i (n - suc i) t) ∙ ap (λ k. times k t) m
 
 -- ---- nodes
 
@@ -156,9 +202,8 @@ node_goes r u optional d w at k m ds sound order e = from_step r (due (item_type
 
 pub node_found : (r : Range) (u : Union) (optional : Bool) (d : ℕ) (w : Bool) (at : ℕ) (k : Kind) (m : ℕ) (ds : Data) (next : ℕ) → IsSound r → at ≤ r.end → d ≤ 513 → kind_at r u optional d w at ≡ Ok (Some k, m) → Run r (fields k) (below k d) w m ds next → Found r (item_type u optional) d w at (child (branch k ds)) next
 node_found r u optional d w at k m ds next sound order small e run =
-    let st = kind_stands r u optional d w at k m sound order e in
-    let mv = kind_moves r u optional d w at (Some k, m) sound order e in
-    let p = mv.forward in let q = run.forward in
+    let st = kind_stands r u optional d w at (Some k, m) sound order e in
+    let p = st.forward in let q = run.forward in
     record {
       goes_on = λ es. node_goes r u optional d w at (Some k) m es sound order e ∙ run.goes_on es;
       spelled =
@@ -166,8 +211,8 @@ node_found r u optional d w at k m ds next sound order small e run =
           ∙ ap (λ (b : List ℕ). varnum (kind_place r.tables k) ++ b) run.spelled
           ∙ sym (append_assoc (varnum (kind_place r.tables k)) (spelled_fields r.tables (held r) (fields k) ds) (left r next))
           ∙ ap (λ (b : List ℕ). b ++ left r next) (sym (framed_item u optional (spelled r.tables (held r) (branch k ds))));
-      fits = fits_child u optional (branch k ds) st.allowed run.fits;
-      depth = depth_of_node (counted k) (ltb 512 d) d (depth_in ds) st.shallow (λ b. ltb-false _ _ b) small run.depth;
+      fits = fits_child u optional (branch k ds) st.may.0 run.fits;
+      depth = depth_of_node (counted k) (ltb 512 d) d (depth_in ds) st.may.2 (λ b. ltb-false _ _ b) small run.depth;
       stands = run.stands;
       has_all = both (has_atom r.tables (atom.kind k)) (list_all (has_atom r.tables) (atoms_of_fields (held r) (fields k) ds)) st.has run.has_all;
       folded = both (is_folded (item_type u optional) (child (branch k ds))) (folded_fields (fields k) ds) (plain_item u optional (child (branch k ds))) run.folded;
@@ -177,18 +222,17 @@ node_found r u optional d w at k m ds next sound order small e run =
 
 pub absent_found : (r : Range) (u : Union) (optional : Bool) (d : ℕ) (w : Bool) (at m : ℕ) → IsSound r → at ≤ r.end → d ≤ 513 → kind_at r u optional d w at ≡ Ok (None, m) → Found r (item_type u optional) d w at absent m
 absent_found r u optional d w at m sound order small e =
-    let st = absent_stands r u optional d w at m sound order e in
-    let mv = kind_moves r u optional d w at (None, m) sound order e in
+    let st = kind_stands r u optional d w at (None, m) sound order e in
     record {
       goes_on = λ es. node_goes r u optional d w at None m es sound order e;
-      spelled = st.0 ∙ ap (λ (b : List ℕ). b ++ left r m) (sym (framed_item u optional (varnum (kind_place r.tables Null))));
-      fits = fits_absent u optional st.1;
+      spelled = st.spelled ∙ ap (λ (b : List ℕ). b ++ left r m) (sym (framed_item u optional (varnum (kind_place r.tables Null))));
+      fits = fits_absent u optional st.may;
       depth = omega arith;
       stands = refl;
-      has_all = both (has_atom r.tables (atom.kind Null)) true st.2 refl;
+      has_all = both (has_atom r.tables (atom.kind Null)) true st.has refl;
       folded = both (is_folded (item_type u optional) absent) true (plain_item u optional absent) refl;
-      forward = mv.forward;
-      within = mv.within;
+      forward = st.forward;
+      within = st.within;
     }
 
 -- the node of fields that fit and are not too deep is made
@@ -198,29 +242,23 @@ node_made r u optional d w at k m ds next sound order one small e run =
     let deep : depth (branch k ds) + d ≤ 513 = f.depth in
     made_where_fit k ds run.fits (omega arith)
 
-kind_stops : (r : Range) (u : Union) (optional : Bool) (d : ℕ) (w : Bool) (at : ℕ) (f : FormatFault) (ds : List Due) → at ≤ r.end → kind_at r u optional d w at ≡ Err f → outcome_from r (due (item_type u optional) d w ∷ ds) at ≡ ends (Some f)
-kind_stops r u optional d w at f ds order e = from_fails r (due (item_type u optional) d w) ds at f order (kind_atom r u optional d w at (Err f) e)
+-- ---- where an atom fails, and where something behind it does
 
-pub kind_fails : (r : Range) (u : Union) (optional : Bool) (d : ℕ) (w : Bool) (at : ℕ) (f : FormatFault) → at ≤ r.end → kind_at r u optional d w at ≡ Err f → Fails r (due (item_type u optional) d w ∷ []) at (Format f)
-kind_fails r u optional d w at f order e = λ ds. ap (λ (o : Outcome). o.fault) (kind_stops r u optional d w at f ds order e)
+pub atom_fails : (r : Range) (t : FieldType) (d : ℕ) (w : Bool) (at : ℕ) (f : FormatFault) → at ≤ r.end → atom_of r t d w at ≡ Err f → Fails r (due t d w ∷ []) at (Format f)
+atom_fails r t d w at f order e = λ ds. ap (λ (o : Outcome). o.fault) (from_fails r (due t d w) ds at f order e)
 
-pub kind_spends : (r : Range) (u : Union) (optional : Bool) (d : ℕ) (w : Bool) (at : ℕ) (f : FormatFault) (old new : ℕ) → at ≤ r.end → kind_at r u optional d w at ≡ Err f → new ≤ old + (r.end - at) → SpentFails r (due (item_type u optional) d w ∷ []) at old new
-kind_spends r u optional d w at f old new order e s = λ ds. subst (λ (o : Outcome). Spent o.windows at r.end old new) (sym (kind_stops r u optional d w at f ds order e)) (let none : Spent [] at r.end old new = omega arith in none)
+pub atom_spends : (r : Range) (t : FieldType) (d : ℕ) (w : Bool) (at : ℕ) (f : FormatFault) (old new : ℕ) → at ≤ r.end → atom_of r t d w at ≡ Err f → new ≤ old + (r.end - at) → SpentFails r (due t d w ∷ []) at old new
+atom_spends r t d w at f old new order e s = λ ds. subst (λ (o : Outcome). Spent o.windows at r.end old new) (sym (from_fails r (due t d w) ds at f order e)) (let none : Spent [] at r.end old new = omega arith in none)
 
-pub fields_fail : (r : Range) (u : Union) (optional : Bool) (d : ℕ) (w : Bool) (at : ℕ) (k : Kind) (m : ℕ) (e : Halt) → IsSound r → at ≤ r.end → kind_at r u optional d w at ≡ Ok (Some k, m) → Fails r (dues (fields k) (below k d) w) m e → Fails r (due (item_type u optional) d w ∷ []) at e
-fields_fail r u optional d w at k m Memory sound order e f = tt
-fields_fail r u optional d w at k m (Format x) sound order e f = λ ds. ap (λ (o : Outcome). o.fault) (node_goes r u optional d w at (Some k) m ds sound order e) ∙ f ds
+pub rest_fails : (r : Range) (t : FieldType) (d : ℕ) (w : Bool) (at : ℕ) (xs : List Due) (m : ℕ) (e : Halt) → IsSound r → at ≤ r.end → atom_of r t d w at ≡ Ok (taken xs [] m) → Fails r xs m e → Fails r (due t d w ∷ []) at e
+rest_fails r t d w at xs m Memory sound order e f = tt
+rest_fails r t d w at xs m (Format x) sound order e f = λ ds. ap (λ (o : Outcome). o.fault) (from_step r (due t d w) ds at (taken xs [] m) sound order e) ∙ f ds
 
--- steps to a next place, and on from there to the end
-spent_on : (ws : List (ℕ × ℕ)) (at m end old mid new : ℕ) → at ≤ m → m ≤ end → mid ≤ old + (m - at) → Spent ws m end mid new → Spent ws at end old new
-spent_on ws at m end old mid new h k s t = omega arith
-
-pub fields_spend : (r : Range) (u : Union) (optional : Bool) (d : ℕ) (w : Bool) (at : ℕ) (k : Kind) (m : ℕ) (old mid new : ℕ) → IsSound r → at ≤ r.end → kind_at r u optional d w at ≡ Ok (Some k, m) → mid ≤ old + (m - at) → SpentFails r (dues (fields k) (below k d) w) m mid new → SpentFails r (due (item_type u optional) d w ∷ []) at old new
-fields_spend r u optional d w at k m old mid new sound order e s f = λ ds.
-    let mv = kind_moves r u optional d w at (Some k, m) sound order e in
-    let p = mv.forward in
-    subst (λ (o : Outcome). Spent o.windows at r.end old new) (sym (node_goes r u optional d w at (Some k) m ds sound order e))
-    (spent_on (outcome_from r (dues (fields k) (below k d) w ++ ds) m).windows at m r.end old mid new (omega arith) mv.within s (f ds))
+pub rest_spends : (r : Range) (t : FieldType) (d : ℕ) (w : Bool) (at : ℕ) (xs : List Due) (m : ℕ) (old mid new : ℕ) → IsSound r → at ≤ r.end → atom_of r t d w at ≡ Ok (taken xs [] m) → mid ≤ old + (m - at) → SpentFails r xs m mid new → SpentFails r (due t d w ∷ []) at old new
+rest_spends r t d w at xs m old mid new sound order e s f = λ ds.
+    let mv = atom_moves r t d w at (taken xs [] m) sound order e in
+    let spent : Spent (outcome_from r (xs ++ ds) m).windows at r.end old new = omega (arith, mv.forward, mv.within, f ds) in
+    subst (λ (o : Outcome). Spent o.windows at r.end old new) (sym (from_step r (due t d w) ds at (taken xs [] m) sound order e)) spent
 
 pub spent_node : (ws : List (ℕ × ℕ)) (at m next old mid new : ℕ) → at ≤ m → m ≤ next → mid ≤ old + (m - at) → Spent ws m next mid new → Spent ws at next old new
 spent_node ws at m next old mid new h k s t = omega arith
@@ -232,26 +270,6 @@ count_atom r u holes filled d w at q e = ap (λ p. p >>= λ x. is_ok (taken (due
 
 pub list_goes : (r : Range) (u : Union) (holes filled : Bool) (d : ℕ) (w : Bool) (at n m : ℕ) (ds : List Due) → IsSound r → at ≤ r.end → count_at r filled at ≡ Ok (n, m) → outcome_from r (due (field.List u holes filled) d w ∷ ds) at ≡ outcome_from r (dues (times n (item_type u holes)) d w ++ ds) m
 list_goes r u holes filled d w at n m ds sound order e = from_step r (due (field.List u holes filled) d w) ds at (taken (dues (times n (item_type u holes)) d w) [] m) sound order (count_atom r u holes filled d w at (Ok (n, m)) e)
-
-count_stops : (r : Range) (u : Union) (holes filled : Bool) (d : ℕ) (w : Bool) (at : ℕ) (f : FormatFault) (ds : List Due) → at ≤ r.end → count_at r filled at ≡ Err f → outcome_from r (due (field.List u holes filled) d w ∷ ds) at ≡ ends (Some f)
-count_stops r u holes filled d w at f ds order e = from_fails r (due (field.List u holes filled) d w) ds at f order (count_atom r u holes filled d w at (Err f) e)
-
-pub count_fails : (r : Range) (u : Union) (holes filled : Bool) (d : ℕ) (w : Bool) (at : ℕ) (f : FormatFault) → at ≤ r.end → count_at r filled at ≡ Err f → Fails r (due (field.List u holes filled) d w ∷ []) at (Format f)
-count_fails r u holes filled d w at f order e = λ ds. ap (λ (o : Outcome). o.fault) (count_stops r u holes filled d w at f ds order e)
-
-pub count_spends : (r : Range) (u : Union) (holes filled : Bool) (d : ℕ) (w : Bool) (at : ℕ) (f : FormatFault) (old new : ℕ) → at ≤ r.end → count_at r filled at ≡ Err f → new ≤ old + (r.end - at) → SpentFails r (due (field.List u holes filled) d w ∷ []) at old new
-count_spends r u holes filled d w at f old new order e s = λ ds. subst (λ (o : Outcome). Spent o.windows at r.end old new) (sym (count_stops r u holes filled d w at f ds order e)) (let none : Spent [] at r.end old new = omega arith in none)
-
-pub items_fail : (r : Range) (u : Union) (holes filled : Bool) (d : ℕ) (w : Bool) (at n m : ℕ) (e : Halt) → IsSound r → at ≤ r.end → count_at r filled at ≡ Ok (n, m) → Fails r (dues (times n (item_type u holes)) d w) m e → Fails r (due (field.List u holes filled) d w ∷ []) at e
-items_fail r u holes filled d w at n m Memory sound order e f = tt
-items_fail r u holes filled d w at n m (Format x) sound order e f = λ ds. ap (λ (o : Outcome). o.fault) (list_goes r u holes filled d w at n m ds sound order e) ∙ f ds
-
-pub items_spend : (r : Range) (u : Union) (holes filled : Bool) (d : ℕ) (w : Bool) (at n m : ℕ) (old mid new : ℕ) → IsSound r → at ≤ r.end → count_at r filled at ≡ Ok (n, m) → mid ≤ old + (m - at) → SpentFails r (dues (times n (item_type u holes)) d w) m mid new → SpentFails r (due (field.List u holes filled) d w ∷ []) at old new
-items_spend r u holes filled d w at n m old mid new sound order e s f = λ ds.
-    let mv = count_moves r filled at (n, m) sound order e in
-    let p = mv.forward in
-    subst (λ (o : Outcome). Spent o.windows at r.end old new) (sym (list_goes r u holes filled d w at n m ds sound order e))
-    (spent_on (outcome_from r (dues (times n (item_type u holes)) d w ++ ds) m).windows at m r.end old mid new (omega arith) mv.within s (f ds))
 
 -- items are spelled as nodes that may be absent
 pub item_spelled : (s : Tables) (h : Held) (u : Union) (holes : Bool) (d : Datum) → fits (item_type u holes) d ≡ true → spelled_at s h (item_type u holes) d ≡ spelled_at s h (field.Optional Body) d
@@ -305,19 +323,6 @@ pub length_times : (n : ℕ) (t : FieldType) → length (times n t) ≡ n
 length_times zero t = refl
 length_times (suc n) t = ap suc (length_times n t)
 
-pub record CountStands (r : Range) (filled : Bool) (at n m : ℕ) : Type 0 where
-  pub spelled : left r at ≡ varnum n ++ left r m
-  pub enough : (filled && eqb n 0) ≡ false
-
-pub count_stands : (r : Range) (filled : Bool) (at n m : ℕ) → IsSound r → at ≤ r.end → count_at r filled at ≡ Ok (n, m) → CountStands r filled at n m
-unfolding count_at
-count_stands r filled at n m sound order e =
-    let b = bind_ok (number_from r at) (λ x. cond (filled && eqb x.0 0) (Err (fault at EmptyList)) (Ok x)) (n, m) e in
-    let g = guard_ok (filled && eqb b.0.0 0) (fault at EmptyList) (Ok b.0) (n, m) b.2 in
-    let is : b.0 ≡ (n, m) = ok_is _ _ g.1 in
-    let sp = (number_spells r at b.0 sound order b.1).front in
-    subst (λ (x : ℕ × ℕ). CountStands r filled at x.0 x.1) is (record { spelled = sp; enough = g.0 })
-
 pub list_fits : (filled : Bool) (n : ℕ) (t : FieldType) (ds : Data) → (filled && eqb n 0) ≡ false → fit (times n t) ds ≡ true → (not filled || not (is_none ds)) ≡ true
 list_fits false n t ds e f = refl
 list_fits true n t (more d ds) e f = refl
@@ -326,9 +331,8 @@ list_fits true (suc n) t none e f = cc
 
 pub list_found : (r : Range) (u : Union) (holes filled : Bool) (d : ℕ) (w : Bool) (at n m : ℕ) (ds : Data) (next : ℕ) → IsSound r → at ≤ r.end → count_at r filled at ≡ Ok (n, m) → Run r (times n (item_type u holes)) d w m ds next → Found r (field.List u holes filled) d w at (listed ds) next
 list_found r u holes filled d w at n m ds next sound order e run =
-    let st = count_stands r filled at n m sound order e in
-    let mv = count_moves r filled at (n, m) sound order e in
-    let p = mv.forward in let q = run.forward in
+    let st = count_stands r filled at (n, m) sound order e in
+    let p = st.forward in let q = run.forward in
     let many : count ds ≡ n = count_fit (times n (item_type u holes)) ds run.fits ∙ length_times n (item_type u holes) in
     let bytes : spelled_fields r.tables (held r) (times n (item_type u holes)) ds ≡ spelled_items r.tables (held r) ds = spelled_times r.tables (held r) n u holes ds run.fits in
     record {
@@ -348,7 +352,27 @@ list_found r u holes filled d w at n m ds next sound order e run =
       within = run.within;
     }
 
+-- ---- values with no parts
+
+pub leaf_found : (r : Range) (t : FieldType) (d : ℕ) (w : Bool) (at : ℕ) (x : Datum × ℕ) → IsSound r → at ≤ r.end → d ≤ 513 → is_leaf t ≡ true → leaf_at r t at ≡ Ok x → Found r t d w at x.0 x.1
+leaf_found r t d w at x sound order small leaf e =
+    let st = (leaf_stands r t at x sound order leaf e).1 in
+    record {
+      goes_on = λ ds. from_step r (due t d w) ds at (taken [] (windows_at x.0) x.1) sound order (leaf_atom r t d w at (Ok x) leaf e);
+      spelled = st.spelled;
+      fits = st.fits;
+      depth = omega (arith, st.flat);
+      stands = st.stands;
+      has_all = st.has_all;
+      folded = st.folded;
+      forward = omega (arith, st.ahead, st.skips);
+      within = st.within;
+    }
+
 -- ---- what the code makes of a node
+
+pub kind_read : (q : Result (Option Kind × ℕ) FormatFault) (x : Option Kind × ℕ) (o : Option Kind) → is_ok x ≡ q → x.0 ≡ o → q ≡ is_ok (o, x.1)
+kind_read q x o read is = sym read ∙ ap (λ (p : Option Kind). is_ok (p, x.1)) is
 
 bounds_of : (c b : Bool) (d : ℕ) → 1 ≤ d → d ≤ 513 → (c && b) ≡ false → (b ≡ false → d ≤ 512) → (1 ≤ cond c (d + 1) d) × (cond c (d + 1) d ≤ 513)
 bounds_of true b d one small e h = let k : d ≤ 512 = h e in (omega arith, omega arith)

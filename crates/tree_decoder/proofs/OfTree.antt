@@ -62,13 +62,9 @@ covered_bytes bytes h (text (Some other)) c = c
 covered_bytes bytes h (window other) c = (length bytes + c.0, length bytes + c.1, moved_bytes bytes h.tape c.0 c.1 ∙ c.2)
 covered_bytes bytes h _ c = tt
 
-covers_text : (bytes : List ℕ) (h : Held) (xs : List Atom) → Covers h xs → Covers (with_text bytes h) xs
-covers_text bytes h [] c = tt
-covers_text bytes h (a ∷ xs) c = (covered_text bytes h a c.0, covers_text bytes h xs c.1)
-
-covers_bytes : (bytes : List ℕ) (h : Held) (xs : List Atom) → Covers h xs → Covers (with_bytes bytes h) xs
-covers_bytes bytes h [] c = tt
-covers_bytes bytes h (a ∷ xs) c = (covered_bytes bytes h a c.0, covers_bytes bytes h xs c.1)
+covers_by : (h g : Held) → ((a : Atom) → Covered h a → Covered g a) → (xs : List Atom) → Covers h xs → Covers g xs
+covers_by h g wider [] c = tt
+covers_by h g wider (a ∷ xs) c = (wider a c.0, covers_by h g wider xs c.1)
 
 first_bytes : (bytes tape : List ℕ) → slice_range (bytes ++ tape) 0 (length bytes) ≡ bytes
 first_bytes bytes tape = let size : length bytes - 0 ≡ length bytes = omega arith in ap (λ (n : ℕ). take n (bytes ++ tape)) size ∙ take_at bytes tape (length bytes) refl
@@ -76,8 +72,8 @@ first_bytes bytes tape = let size : length bytes - 0 ≡ length bytes = omega ar
 -- there are texts and bytes for all atoms
 held_over : (xs : List Atom) → (h : Held) × Covers h xs
 held_over [] = (record { texts = []; tape = [] }, tt)
-held_over (text (Some bytes) ∷ xs) = let o = held_over xs in (with_text bytes o.0, ((0, refl), covers_text bytes o.0 xs o.1))
-held_over (window bytes ∷ xs) = let o = held_over xs in (with_bytes bytes o.0, ((0, length bytes, first_bytes bytes o.0.tape), covers_bytes bytes o.0 xs o.1))
+held_over (text (Some bytes) ∷ xs) = let o = held_over xs in (with_text bytes o.0, ((0, refl), covers_by o.0 (with_text bytes o.0) (covered_text bytes o.0) xs o.1))
+held_over (window bytes ∷ xs) = let o = held_over xs in (with_bytes bytes o.0, ((0, length bytes, first_bytes bytes o.0.tape), covers_by o.0 (with_bytes bytes o.0) (covered_bytes bytes o.0) xs o.1))
 held_over (_ ∷ xs) = let o = held_over xs in (o.0, (tt, o.1))
 
 -- ---- a value for a due, and values for several

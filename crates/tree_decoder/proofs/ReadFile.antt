@@ -15,7 +15,7 @@ use Rattle.tree_decoder.specs.OuterReading.{outside_windows, windows_in}
 use Rattle.tree_decoder.specs.Script.{script, script_outcome}
 use Rattle.tree_decoder.specs.Windows.{skipped}
 use Rattle.tree_decoder.proofs.Machine.{skips_within}
-use Rattle.tree_decoder.proofs.Sound.{range_sound}
+use Rattle.tree_decoder.proofs.InGrammar.{range_sound}
 
 -- where a container was read, its bytes outside the tree's content are all others
 pub layout_outside : (bytes : List ℕ) (l : Layout) → layout_of bytes ≡ Ok l → outside bytes ≡ length bytes - (l.to - l.from)

@@ -1,7 +1,6 @@
 -- Trees with the same atoms are the same but for the numbers of names and the places of windows.
-use Rattle.std.proofs.Common.{ℕ, suc, ◌<◌, ◌≡◌, Bool, true, false, not, ◌&&◌, ◌||◌, List, [], ◌∷◌, ◌++◌, length, Option, Some, None, is_some, get_or, refl, sym, ap, subst, ◌∙◌, append_assoc, arith}
+use Rattle.std.proofs.Common.{ℕ, zero, suc, ◌≡◌, Bool, true, false, not, ◌&&◌, ◌||◌, List, [], ◌∷◌, ◌++◌, length, nat_lt, Option, Some, None, is_some, get_or, refl, sym, ap, subst, ◌∙◌, append_assoc, slice_get}
 use Rattle.std.specs.List.{list_all}
-use Rattle.std.proofs.lemmas.Bool.{ltb-true}
 use Rattle.bast_schema.specs.declared.kind.FieldType.{FieldType}
 use Rattle.bast_schema.specs.declared.kind.FieldType.TheVariants as field
 use Rattle.bast_schema.specs.declared.kind.EnumId.{EnumId}
@@ -11,19 +10,50 @@ use Rattle.bast_schema.specs.declared.kind.Union.{Union}
 use Rattle.bast_schema.specs.declared.kind.Union.TheVariants.{Body}
 use Rattle.bast_schema.specs.Choices.{choice_texts, choice_of_text}
 use Rattle.bast_schema.specs.Fields.{fields}
-use Rattle.bast_schema.specs.Held.{Held, text_of, bytes_of}
+use Rattle.bast_schema.specs.Held.{Held, text_of}
 use Rattle.bast_schema.specs.Tree.{Tree, branch, Datum, child, absent, listed, flag, index, whole, name, no_name, choice, window, Data, none, more, typed, fits, fit, items_fit, item_type, is_none, count}
 use Rattle.bast_schema.specs.Unions.{allowed}
-use Rattle.bast_schema.proofs.Both.{and_first, and_second}
+use Rattle.bast_schema.proofs.Both.{and_first, and_second, both}
 use Rattle.container.specs.Atoms as atom
 use Rattle.container.specs.Atoms.{Atom, atoms, atoms_of, atoms_of_fields, atoms_of_items}
 use Rattle.container.specs.Named.{named, named_at, all_named}
 use Rattle.tree_decoder.specs.SameTree.{IsSameTree, IsSame, AreSame}
-use Rattle.tree_decoder.proofs.Accepts.{choice_text_of}
-use Rattle.tree_decoder.proofs.NoNull.{no_null, fields_no_null, item_no_null, not_null}
-use Rattle.tree_decoder.proofs.Nodes.{item_atoms}
+use Rattle.tree_decoder.proofs.Spelling.{choice_text_of, fits_times}
+use Rattle.tree_decoder.specs.Dues.{times}
+use Rattle.tree_decoder.proofs.Nodes.{times_atoms}
+use Rattle.bast_schema.specs.Kinds.{kinds, number}
+use Rattle.bast_schema.proofs.EachKind.{kind_at_number}
 
-pub one_choice : (e : EnumId) (n m : ℕ) → n < length (choice_texts e) → m < length (choice_texts e) → get_or (choice_texts e) n [] ≡ get_or (choice_texts e) m [] → n ≡ m
+-- ---- no field may hold a node of the absent kind
+
+abbrev pub no_null : FieldType → Bool
+no_null (field.Node u) = not (allowed u Null)
+no_null (field.Optional u) = not (allowed u Null)
+no_null (field.List u holes filled) = not (allowed u Null)
+no_null (field.Lazy u) = not (allowed u Null)
+no_null _ = true
+
+every : {A : Type 0} (p : A → Bool) (xs : List A) (n : ℕ) (x : A) → list_all p xs ≡ true → slice_get xs n ≡ Some x → p x ≡ true
+every p [] n x all is = absurd cc
+every p (y ∷ ys) zero x all is = let same : y ≡ x = cc in sym (ap p same) ∙ and_first (p y) (list_all p ys) all
+every p (y ∷ ys) (suc n) x all is = every p ys n x (and_second (p y) (list_all p ys) all) is
+
+table_no_null : list_all (λ (k : Kind). list_all no_null (fields k)) kinds ≡ true
+table_no_null = refl
+
+pub fields_no_null : (k : Kind) → list_all no_null (fields k) ≡ true
+fields_no_null k = every (λ (j : Kind). list_all no_null (fields j)) kinds (number k) k table_no_null (kind_at_number k)
+
+pub item_no_null : (u : Union) (holes : Bool) → not (allowed u Null) ≡ true → no_null (item_type u holes) ≡ true
+item_no_null u true e = e
+item_no_null u false e = e
+
+pub not_null : (u : Union) (j : Kind) → not (allowed u Null) ≡ true → allowed u j ≡ true → Null ≡ j → {A : Type 0} → A
+not_null u j never may same = let null : allowed u Null ≡ true = ap (allowed u) same ∙ may in let b : not true ≡ true = rw null at never in absurd cc
+
+-- ----
+
+pub one_choice : (e : EnumId) (n m : ℕ) → nat_lt n (length (choice_texts e)) ≡ true → nat_lt m (length (choice_texts e)) ≡ true → get_or (choice_texts e) n [] ≡ get_or (choice_texts e) m [] → n ≡ m
 one_choice e n m p q same = let both : Some n ≡ Some m = sym (choice_text_of e n p) ∙ ap (choice_of_text e) same ∙ choice_text_of e m q in cc
 
 -- ---- two values with the same atoms, one after the other
@@ -38,10 +68,6 @@ record AlikeIn (h g : Held) (ds es : Data) (x y : List Atom) : Type 0 where
 
 record KnownIn (h : Held) (ts : List FieldType) (ds : Data) : Type 0 where
   pub fits : fit ts ds ≡ true
-  pub named : all_named h ds ≡ true
-
-record KnownItems (h : Held) (u : Union) (holes : Bool) (ds : Data) : Type 0 where
-  pub fits : items_fit u holes ds ≡ true
   pub named : all_named h ds ≡ true
 
 first_same : (a b : Atom) (xs ys : List Atom) → a ∷ xs ≡ b ∷ ys → (a ≡ b) × (xs ≡ ys)
@@ -76,42 +102,21 @@ absent_apart u j xs ys never may e =
 
 -- ---- values with no parts
 
-text_same : (h g : Held) (n m : ℕ) (x y : List Atom) → atom.text (text_of h n) ∷ x ≡ atom.text (text_of g m) ∷ y → Alike h g (name n) (name m) x y
-text_same h g n m x y e =
-    let parts = first_same (atom.text (text_of h n)) (atom.text (text_of g m)) x y e in
-    let texts : atom.text (text_of h n) ≡ atom.text (text_of g m) = parts.0 in
-    record { same = cc; rest = parts.1 }
-
 -- a name with a text has the atom of no absent label
 label_apart : (o : Option (List ℕ)) (xs ys : List Atom) → is_some o ≡ true → atom.text o ∷ xs ≡ atom.text None ∷ ys → {A : Type 0} → A
 label_apart (Some words) xs ys is e = absurd cc
 label_apart None xs ys is e = absurd cc
 
-choice_same : (h g : Held) (set : EnumId) (n m : ℕ) (x y : List Atom) → n < length (choice_texts set) → m < length (choice_texts set) → atom.text (Some (get_or (choice_texts set) n [])) ∷ x ≡ atom.text (Some (get_or (choice_texts set) m [])) ∷ y → Alike h g (choice n) (choice m) x y
+choice_same : (h g : Held) (set : EnumId) (n m : ℕ) (x y : List Atom) → nat_lt n (length (choice_texts set)) ≡ true → nat_lt m (length (choice_texts set)) ≡ true → atom.text (Some (get_or (choice_texts set) n [])) ∷ x ≡ atom.text (Some (get_or (choice_texts set) m [])) ∷ y → Alike h g (choice n) (choice m) x y
 choice_same h g set n m x y p q e =
     let parts = first_same (atom.text (Some (get_or (choice_texts set) n []))) (atom.text (Some (get_or (choice_texts set) m []))) x y e in
     let texts : atom.text (Some (get_or (choice_texts set) n [])) ≡ atom.text (Some (get_or (choice_texts set) m [])) = parts.0 in
     let words : get_or (choice_texts set) n [] ≡ get_or (choice_texts set) m [] = cc in
     record { same = ap choice (one_choice set n m p q words); rest = parts.1 }
 
-window_same : (h g : Held) (a b c d : ℕ) (x y : List Atom) → atom.window (bytes_of h a b) ∷ x ≡ atom.window (bytes_of g c d) ∷ y → Alike h g (window a b) (window c d) x y
-window_same h g a b c d x y e =
-    let parts = first_same (atom.window (bytes_of h a b)) (atom.window (bytes_of g c d)) x y e in
-    let bytes : atom.window (bytes_of h a b) ≡ atom.window (bytes_of g c d) = parts.0 in
-    record { same = cc; rest = parts.1 }
-
--- a window has the atom of no node
-window_apart : (bytes : List ℕ) (k : Kind) (xs ys : List Atom) → atom.window bytes ∷ xs ≡ atom.kind k ∷ ys → {A : Type 0} → A
-window_apart bytes k xs ys e = absurd cc
-
-flag_same : (h g : Held) (b c : Bool) (x y : List Atom) → atom.flag b ∷ x ≡ atom.flag c ∷ y → Alike h g (flag b) (flag c) x y
-flag_same h g b c x y e = record { same = cc; rest = cc }
-
-index_same : (h g : Held) (n m : ℕ) (x y : List Atom) → atom.index n ∷ x ≡ atom.index m ∷ y → Alike h g (index n) (index m) x y
-index_same h g n m x y e = record { same = cc; rest = cc }
-
-whole_same : (h g : Held) (n m : ℕ) (x y : List Atom) → atom.whole n ∷ x ≡ atom.whole m ∷ y → Alike h g (whole n) (whole m) x y
-whole_same h g n m x y e = record { same = cc; rest = cc }
+times_no_null : (n : ℕ) (t : FieldType) → no_null t ≡ true → list_all no_null (times n t) ≡ true
+times_no_null zero t never = refl
+times_no_null (suc n) t never = both (no_null t) (list_all no_null (times n t)) never (times_no_null n t never)
 
 mutual
   value_alike : (h g : Held) (v : Datum) (t : FieldType) (o : Datum) (x y : List Atom) → no_null t ≡ true → fits t v ≡ true → fits t o ≡ true → named_at h v ≡ true → named_at g o ≡ true → atoms_of h t v ++ x ≡ atoms_of g t o ++ y → Alike h g v o x y
@@ -126,27 +131,30 @@ mutual
       absent_apart u j x (atoms_of_fields g (fields j) es ++ y) never (and_first (allowed u j) (fit (fields j) es) q) e
   value_alike h g (child (branch k ds)) (field.Optional u) absent x y never p q mv mo e =
       absent_apart u k y (atoms_of_fields h (fields k) ds ++ x) never (and_first (allowed u k) (fit (fields k) ds) p) (sym e)
-  value_alike h g (window a b) (field.Lazy u) (window c d) x y never p q mv mo e = window_same h g a b c d x y e
-  value_alike h g (window a b) (field.Lazy u) (child (branch j es)) x y never p q mv mo e = window_apart (bytes_of h a b) j x (atoms_of_fields g (fields j) es ++ y) e
-  value_alike h g (child (branch k ds)) (field.Lazy u) (window c d) x y never p q mv mo e = window_apart (bytes_of g c d) k y (atoms_of_fields h (fields k) ds ++ x) (sym e)
+  value_alike h g (window a b) (field.Lazy u) (window c d) x y never p q mv mo e = record { same = cc; rest = cc }
+  value_alike h g (window a b) (field.Lazy u) (child (branch j es)) x y never p q mv mo e = absurd cc
+  value_alike h g (child (branch k ds)) (field.Lazy u) (window c d) x y never p q mv mo e = absurd cc
   value_alike h g (listed ds) (field.List u holes filled) (listed es) x y never p q mv mo e =
       let parts = first_same (atom.count (count ds)) (atom.count (count es)) (atoms_of_items h ds ++ x) (atoms_of_items g es ++ y) e in
       let counts : atom.count (count ds) ≡ atom.count (count es) = parts.0 in
       let many : count ds ≡ count es = cc in
-      let items = items_alike h g ds u holes es x y never many
-      (record { fits = and_second (not filled || not (is_none ds)) (items_fit u holes ds) p; named = mv })
-      (record { fits = and_second (not filled || not (is_none es)) (items_fit u holes es) q; named = mo }) parts.1 in
+      let ts = times (count ds) (item_type u holes) in
+      let fit_ds : fit (times (count ds) (item_type u holes)) ds ≡ true = fits_times u holes ds (and_second (not filled || not (is_none ds)) (items_fit u holes ds) p) in
+      let fit_es : fit (times (count ds) (item_type u holes)) es ≡ true =
+      subst (λ (n : ℕ). fit (times n (item_type u holes)) es ≡ true) (sym many) (fits_times u holes es (and_second (not filled || not (is_none es)) (items_fit u holes es) q)) in
+      let is = ap (λ (z : List Atom). z ++ x) (times_atoms h (count ds) u holes ds fit_ds) ∙ parts.1 ∙ ap (λ (z : List Atom). z ++ y) (sym (times_atoms g (count ds) u holes es fit_es)) in
+      let items = fields_alike h g ds ts es x y (times_no_null (count ds) (item_type u holes) (item_no_null u holes never)) (record { fits = fit_ds; named = mv }) (record { fits = fit_es; named = mo }) is in
       record { same = items.same; rest = items.rest }
-  value_alike h g (flag b) field.Bool (flag c) x y never p q mv mo e = flag_same h g b c x y e
-  value_alike h g (index n) field.Index (index m) x y never p q mv mo e = index_same h g n m x y e
-  value_alike h g (whole n) field.Whole (whole m) x y never p q mv mo e = whole_same h g n m x y e
-  value_alike h g (name n) field.Text (name m) x y never p q mv mo e = text_same h g n m x y e
-  value_alike h g (name n) field.Name (name m) x y never p q mv mo e = text_same h g n m x y e
-  value_alike h g (name n) field.Label (name m) x y never p q mv mo e = text_same h g n m x y e
+  value_alike h g (flag b) field.Bool (flag c) x y never p q mv mo e = record { same = cc; rest = cc }
+  value_alike h g (index n) field.Index (index m) x y never p q mv mo e = record { same = cc; rest = cc }
+  value_alike h g (whole n) field.Whole (whole m) x y never p q mv mo e = record { same = cc; rest = cc }
+  value_alike h g (name n) field.Text (name m) x y never p q mv mo e = record { same = cc; rest = cc }
+  value_alike h g (name n) field.Name (name m) x y never p q mv mo e = record { same = cc; rest = cc }
+  value_alike h g (name n) field.Label (name m) x y never p q mv mo e = record { same = cc; rest = cc }
   value_alike h g no_name field.Label no_name x y never p q mv mo e = record { same = refl; rest = cc }
   value_alike h g (name n) field.Label no_name x y never p q mv mo e = label_apart (text_of h n) x y mv e
   value_alike h g no_name field.Label (name m) x y never p q mv mo e = label_apart (text_of g m) y x mo (sym e)
-  value_alike h g (choice n) (field.Choice set) (choice m) x y never p q mv mo e = choice_same h g set n m x y (ltb-true _ _ p) (ltb-true _ _ q) e
+  value_alike h g (choice n) (field.Choice set) (choice m) x y never p q mv mo e = choice_same h g set n m x y p q e
   value_alike h g _ _ _ x y never p q mv mo e = absurd cc
 
   fields_alike : (h g : Held) (ds : Data) (ts : List FieldType) (es : Data) (x y : List Atom) → list_all no_null ts ≡ true → KnownIn h ts ds → KnownIn g ts es → atoms_of_fields h ts ds ++ x ≡ atoms_of_fields g ts es ++ y → AlikeIn h g ds es x y
@@ -162,29 +170,6 @@ mutual
       let rest = fields_alike h g ds ts es x y (and_second (no_null t) (list_all no_null ts) never)
       (record { fits = and_second (fits t v) (fit ts ds) p.fits; named = and_second (named_at h v) (all_named h ds) p.named })
       (record { fits = and_second (fits t o) (fit ts es) q.fits; named = and_second (named_at g o) (all_named g es) q.named }) first.rest in
-      record { same = (first.same, rest.same); rest = rest.rest }
-
-  items_alike : (h g : Held) (ds : Data) (u : Union) (holes : Bool) (es : Data) (x y : List Atom) → not (allowed u Null) ≡ true → count ds ≡ count es → KnownItems h u holes ds → KnownItems g u holes es → atoms_of_items h ds ++ x ≡ atoms_of_items g es ++ y → AlikeIn h g ds es x y
-  items_alike h g none u holes none x y never many p q e = record { same = tt; rest = e }
-  items_alike h g none u holes (more o es) x y never many p q e = absurd (omega arith)
-  items_alike h g (more v ds) u holes none x y never many p q e = absurd (omega arith)
-  items_alike h g (more v ds) u holes (more o es) x y never many p q e =
-      let t = item_type u holes in
-      let pv = and_first (fits (item_type u holes) v) (items_fit u holes ds) p.fits in
-      let po = and_first (fits (item_type u holes) o) (items_fit u holes es) q.fits in
-      let rest_a = atoms_of_items h ds ++ x in
-      let rest_b = atoms_of_items g es ++ y in
-      let is =
-      ap (λ (z : List Atom). z ++ rest_a) (sym (item_atoms h u holes v pv))
-      ∙ sym (append_assoc (atoms_of h (field.Optional Body) v) (atoms_of_items h ds) x)
-      ∙ e
-      ∙ append_assoc (atoms_of g (field.Optional Body) o) (atoms_of_items g es) y
-      ∙ ap (λ (z : List Atom). z ++ rest_b) (item_atoms g u holes o po) in
-      let first = value_alike h g v (item_type u holes) o rest_a rest_b (item_no_null u holes never) pv po (and_first (named_at h v) (all_named h ds) p.named) (and_first (named_at g o) (all_named g es) q.named) is in
-      let left : suc (count ds) ≡ suc (count es) = many in
-      let rest = items_alike h g ds u holes es x y never (omega arith)
-      (record { fits = and_second (fits (item_type u holes) v) (items_fit u holes ds) p.fits; named = and_second (named_at h v) (all_named h ds) p.named })
-      (record { fits = and_second (fits (item_type u holes) o) (items_fit u holes es) q.fits; named = and_second (named_at g o) (all_named g es) q.named }) first.rest in
       record { same = (first.same, rest.same); rest = rest.rest }
 
 -- the roots

@@ -1,34 +1,44 @@
 -- What a script that was read is, for those who ask of whole trees.
-use Rattle.std.proofs.Common.{ℕ, ◌-◌, ◌≤◌, ◌≡◌, length, arith, Bool, true, false, not, ◌&&◌, ◌||◌, List, [], ◌∷◌, Option, Some, None, refl, sym, ap, ◌∙◌, slice_get}
+use Rattle.std.proofs.Common.{ℕ, ◌-◌, ◌≤◌, ◌≡◌, length, arith, Bool, true, false, not, ◌&&◌, ◌||◌, List, [], ◌∷◌, Option, Some, None, refl, sym, ap, ◌∙◌, slice_get, ◌+◌, ◌<◌, ◌++◌, take, drop, Result, Ok, Err, subst, append-nil}
 use Rattle.std.specs.List.{list_any}
 use Rattle.std.specs.Option.{is_some}
 use Rattle.std.proofs.lemmas.Option.{get_or_from_slice_get}
 use Rattle.bast_schema.specs.Counts.{is_whole, is_whole_at, is_whole_in, size}
 use Rattle.bast_schema.specs.Eager.{is_eager, is_eager_at, are_eager}
 use Rattle.bast_schema.specs.Held.{Held, text_of}
-use Rattle.bast_schema.specs.Tree.{Tree, branch, Datum, child, absent, listed, name, window, Data, none, more, typed, fits, fit, items_fit, item_type, is_none, kind_of}
+use Rattle.bast_schema.specs.Tree.{Tree, branch, Datum, child, absent, listed, name, window, Data, none, more, typed, fits, fit, items_fit, item_type, is_none, kind_of, depth, count}
 use Rattle.bast_schema.specs.Unions.{allowed}
 use Rattle.bast_schema.proofs.Both.{and_first, and_second, both}
 use Rattle.container.specs.Atoms.{atoms}
 use Rattle.container.specs.InFile.{is_unnested}
 use Rattle.bast_schema.specs.declared.kind.FieldType.{FieldType}
 use Rattle.bast_schema.specs.declared.kind.FieldType.TheVariants as field
-use Rattle.bast_schema.specs.declared.kind.Union.{Union}
 use Rattle.bast_schema.specs.Fields.{fields, has_lazy, is_lazy_type}
-use Rattle.container.specs.Folded.{is_folded, folded, folded_at, folded_fields, folded_items}
-use Rattle.tree_decoder.specs.Found.{is_text, stands, stands_at, all_stand}
+use Rattle.container.specs.Folded.{is_folded, folded, folded_at, folded_fields}
+use Rattle.tree_decoder.specs.Found.{is_text, stands, stands_at, all_stand, Found, Fails, Spent}
 use Rattle.tree_decoder.specs.Range.{Range, IsSound, held, left}
 use Rattle.tree_decoder.specs.SameTree.{IsSameTree}
-use Rattle.tree_decoder.specs.Script.{IsScript}
+use Rattle.tree_decoder.specs.Script.{IsScript, ReadsScript, script, script_outcome}
 use Rattle.container.specs.Named.{named, named_at, all_named}
 use Rattle.container.specs.Spelled.{spelled}
 use Rattle.container.proofs.ByAtoms.{eager_is_unnested}
 use Rattle.container.proofs.SizeSpelled.{size_spelled}
-use Rattle.tree_decoder.specs.Spelt.{IsSpelt}
-use Rattle.tree_decoder.proofs.Nodes.{plain_item}
+use Rattle.tree_decoder.specs.Spelt.{IsSpelt, NoFault}
 use Rattle.tree_decoder.proofs.OneTree.{one_eager_tree, one_folded_tree}
 use Rattle.tree_decoder.proofs.SameTree.{same_tree}
-use Rattle.tree_decoder.proofs.Spells.{left_length}
+use Rattle.tree_decoder.proofs.Single.{left_length}
+use Rattle.bast_base.specs.declared.errors.Halt.{Halt}
+use Rattle.bast_base.specs.declared.errors.Halt.TheVariants.{Memory, Format}
+use Rattle.bast_base.specs.declared.errors.Why.TheVariants.{Trailing}
+use Rattle.bast_schema.specs.declared.kind.Kind.TheVariants.{Script}
+use Rattle.bast_schema.specs.declared.kind.Union.TheVariants.{One}
+use Rattle.bast_schema.proofs.Typed.{allowed_one}
+use Rattle.tree_decoder.specs.Dues.{due, times}
+use Rattle.container.specs.Answers.{fault}
+use Rattle.tree_decoder.specs.Outcome.{Outcome, behind, outcome_from}
+use Rattle.tree_decoder.specs.Windows.{windows, windows_at, skipped}
+use Rattle.tree_decoder.proofs.Spelling.{fits_times, folded_times, tree_accepted}
+use Rattle.tree_decoder.proofs.Machine.{trailing, all_read, skipped_both, skips_within}
 
 some_text : (r : Range) (n : ℕ) (o : Option (Option (List ℕ))) → slice_get r.tables.texts n ≡ o → is_text o ≡ true → is_some (text_of (held r) n) ≡ true
 some_text r n (Some (Some words)) is e = ap is_some (get_or_from_slice_get r.tables.texts n (Some words) None is)
@@ -67,7 +77,9 @@ mutual
   eager_at (child c) (field.Lazy u) ok plain shut none_left = absurd cc
   eager_at (window from to) (field.Lazy u) ok plain shut none_left = absurd cc
   eager_at absent (field.Optional u) ok plain shut none_left = (refl, refl)
-  eager_at (listed ds) (field.List u holes filled) ok plain shut none_left = (refl, eager_items ds u holes (and_second (not filled || not (is_none ds)) (items_fit u holes ds) ok) shut none_left)
+  eager_at (listed ds) (field.List u holes filled) ok plain shut none_left =
+      let items = fits_times u holes ds (and_second (not filled || not (is_none ds)) (items_fit u holes ds) ok) in
+      (refl, (eager_fields ds (times (count ds) (item_type u holes)) items (folded_times u holes ds shut) none_left).1)
   eager_at (listed ds) _ ok plain shut none_left = absurd cc
   eager_at _ (field.Lazy u) ok plain shut none_left = absurd cc
   eager_at (child c) _ ok plain shut none_left = absurd cc
@@ -83,13 +95,6 @@ mutual
       let rest = eager_fields ds ts (and_second (fits t d) (fit ts ds) ok) (and_second (folded_at d) (folded_fields ts ds) others) (and_second (is_whole_at d) (is_whole_in ds) none_left) in
       (neither (is_lazy_type t) (list_any is_lazy_type ts) first.0 rest.0, both (is_eager_at d) (are_eager ds) first.1 rest.1)
 
-  eager_items : (ds : Data) (u : Union) (holes : Bool) → items_fit u holes ds ≡ true → folded_items ds ≡ true → is_whole_in ds ≡ true → are_eager ds ≡ true
-  eager_items none u holes ok shut none_left = refl
-  eager_items (more d ds) u holes ok shut none_left =
-      both (is_eager_at d) (are_eager ds)
-      (eager_at d (item_type u holes) (and_first (fits (item_type u holes) d) (items_fit u holes ds) ok) (plain_item u holes d) (and_first (folded_at d) (folded_items ds) shut) (and_first (is_whole_at d) (is_whole_in ds) none_left)).1
-      (eager_items ds u holes (and_second (fits (item_type u holes) d) (items_fit u holes ds) ok) (and_second (folded_at d) (folded_items ds) shut) (and_second (is_whole_at d) (is_whole_in ds) none_left))
-
 -- ---- so a whole script that is read is one of the grammar of files
 
 pub unnested_script : (r : Range) (at : ℕ) (t : Tree) → IsScript r at t → is_whole t ≡ true → is_unnested t ≡ true
@@ -99,7 +104,7 @@ unnested_script r at t read none_left = eager_is_unnested t (eager_tree t read.t
 
 same_atoms : (r : Range) (at : ℕ) (h : Held) (t u : Tree) (b : Bool) → is_whole t ≡ b → (b || folded u) ≡ true → IsScript r at t → IsSpelt r at h u → atoms (held r) t ≡ atoms h u
 same_atoms r at h t u true no_window e read spelt =
-    one_eager_tree r.tables (held r) h t u read.has_all spelt.has_all read.typed spelt.typed no_window (eager_tree t read.typed read.folded no_window) (sym read.spelled ∙ spelt.spelled)
+    one_eager_tree r.tables (held r) h t u read.has_all spelt.has_all read.typed spelt.typed no_window read.folded (sym read.spelled ∙ spelt.spelled)
 same_atoms r at h t u false some e read spelt = one_folded_tree r.tables (held r) h t u read.has_all spelt.has_all read.typed spelt.typed read.folded e (sym read.spelled ∙ spelt.spelled)
 
 pub one_script : (r : Range) (at : ℕ) (h : Held) (t u : Tree) → IsScript r at t → IsSpelt r at h u → (is_whole t || folded u) ≡ true → IsSameTree (held r) h t u
@@ -116,3 +121,51 @@ script_size r at t sound order read =
     let long : length (left r at) ≡ r.end - at = left_length r at sound order in
     let same : length (left r at) ≡ length (spelled r.tables (held r) t) = ap length read.spelled in
     omega arith
+
+-- ---- a script is read from all of the bytes
+
+none_left : (r : Range) (next : ℕ) → r.end ≤ next → left r next ≡ []
+none_left r next le = let none : r.end - next ≡ 0 = omega arith in ap (λ (n : ℕ). take n (drop next r.tape)) none
+
+pub script_stands : (r : Range) (at : ℕ) (t : Tree) (next : ℕ) → Found r script 1 false at (child t) next → r.end ≤ next → IsScript r at t
+script_stands r at t next f le =
+    let deep : depth t + 1 ≤ 513 = f.depth in
+    let no_more : windows t ++ [] ≡ windows t = append-nil (windows t) in
+    let as_outcome : List (ℕ × ℕ) → Outcome = λ ws. record { windows = ws; fault = None } in
+    record {
+      spelled = f.spelled ∙ ap (λ (b : List ℕ). spelled r.tables (held r) t ++ b) (none_left r next le) ∙ append-nil (spelled r.tables (held r) t);
+      kind = sym (allowed_one Script (kind_of t) (and_first (allowed (One Script) (kind_of t)) (typed t) f.fits));
+      typed = and_second (allowed (One Script) (kind_of t)) (typed t) f.fits;
+      shallow = omega arith;
+      stands = f.stands;
+      has_all = f.has_all;
+      folded = f.folded;
+      outcome = f.goes_on [] ∙ ap (behind (windows t)) (all_read r next le) ∙ ap as_outcome no_more;
+    }
+
+pub bytes_left_over : (r : Range) (at : ℕ) (v : Datum) (next : ℕ) → Found r script 1 false at v next → next < r.end → (script_outcome r at).fault ≡ Some (fault next Trailing)
+bytes_left_over r at v next f lt = ap (λ (o : Outcome). o.fault) (f.goes_on [] ∙ ap (behind (windows_at v)) (trailing r next lt))
+
+pub script_spends : (r : Range) (at : ℕ) (v : Datum) (next old new : ℕ) → IsSound r → Found r script 1 false at v next → Spent (windows_at v) at next old new → Spent (script_outcome r at).windows at r.end old new
+script_spends r at v next old new sound f s =
+    let rest : Outcome = outcome_from r [] next in
+    let others : skipped rest.windows ≤ r.end - next = skips_within r [] next sound f.within in
+    let both : skipped (windows_at v ++ rest.windows) ≡ skipped (windows_at v) + skipped rest.windows = skipped_both (windows_at v) rest.windows in
+    let ahead : at < next = f.forward in
+    let within : next ≤ r.end = f.within in
+    subst (λ (o : Outcome). Spent o.windows at r.end old new) (sym (f.goes_on [])) (let all : Spent (windows_at v ++ rest.windows) at r.end old new = omega arith in all)
+
+-- the bytes of a script are read with no fault
+pub script_accepted : (r : Range) (at : ℕ) (h : Held) (t : Tree) → IsSound r → at ≤ r.end → IsSpelt r at h t → (script_outcome r at).fault ≡ None
+script_accepted r at h t sound order is =
+    let ok : (allowed (One Script) (kind_of t) && typed t) ≡ true = rw (is.kind, is.typed) refl in
+    tree_accepted r h t (One Script) at sound order ok is.has_all is.named is.shallow is.spelled
+
+pub only_memory : (r : Range) (at : ℕ) (q : Result Tree Halt) → IsSound r → at ≤ r.end → ReadsScript r at q → (h : Held) (t : Tree) → IsSpelt r at h t → NoFault q
+only_memory r at (Ok u) sound order reads h t is = tt
+only_memory r at (Err Memory) sound order reads h t is = tt
+only_memory r at (Err (Format f)) sound order reads h t is = let e : Some f ≡ None = sym reads ∙ script_accepted r at h t sound order is in absurd cc
+
+pub only_failed : (r : Range) (at : ℕ) (e : Halt) → IsSound r → at ≤ r.end → Fails r (due script 1 false ∷ []) at e → (h : Held) (t : Tree) → IsSpelt r at h t → NoFault (Err e)
+only_failed r at Memory sound order fails h t is = tt
+only_failed r at (Format f) sound order fails h t is = only_memory r at (Err (Format f)) sound order (fails []) h t is

@@ -1,4 +1,4 @@
-use Rattle.tree_decoder.proofs.Dues.{left_at}
+use Rattle.tree_decoder.proofs.Spelling.{left_at}
 use Rattle.tree_decoder.proofs.laws.atoms_are_due.Goals as goal
 
 pub returns : goal.returns

@@ -1,4 +1,4 @@
-use Rattle.tree_decoder.proofs.Values.{script_there}
+use Rattle.tree_decoder.proofs.Rows.{script_there}
 use Rattle.tree_decoder.proofs.laws.some_script_is_spelled.Goals as goal
 
 pub returns : goal.returns

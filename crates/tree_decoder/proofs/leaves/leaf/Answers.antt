@@ -1,6 +1,6 @@
-use Rattle.std.proofs.Common.{◌<◌, sym, arith}
+use Rattle.std.proofs.Common.{sym}
 use Rattle.tree_decoder.specs.Range.{range_of}
-use Rattle.tree_decoder.proofs.Spending.{numbered_spends, numbered_gives, leaf_number}
+use Rattle.tree_decoder.proofs.Single.{numbered_spends, numbered_gives, leaf_number, number_spells}
 use Rattle.tree_decoder.proofs.leaves.leaf.Goals as goal
 
 pub returns-in_ok-number-in_default-clause-is : goal.returns-in_ok-number-in_default-clause-is
@@ -10,5 +10,5 @@ returns-in_ok-number-in_default-clause-is g c =
 
 pub returns-in_ok-number-in_default-clause-cost : goal.returns-in_ok-number-in_default-clause-cost
 returns-in_ok-number-in_default-clause-cost g c =
-    let ahead : c.args.at < c.in_ok-number-in_default.next = c.in_ok-number-in_default.ensures.moves.0 in
-    numbered_spends (range_of c.args.input.now) c.args.wanted c.args.at c.in_ok-number-in_default.number c.in_ok-number-in_default.next _ _ c.numbered.result c.numbered.ensures c.in_ok-number-in_default.ensures.cost (omega arith) c.in_ok-number-in_default.ensures.moves.1
+    let read = number_spells (range_of c.args.input.now) c.args.at (c.in_ok-number-in_default.number, c.in_ok-number-in_default.next) c.requires.sound c.requires.at (sym c.in_ok-number-in_default.ensures.is) in
+    numbered_spends (range_of c.args.input.now) c.args.wanted c.args.at c.in_ok-number-in_default.number c.in_ok-number-in_default.next _ _ c.numbered.result c.requires.sound read c.numbered.ensures c.in_ok-number-in_default.ensures.cost

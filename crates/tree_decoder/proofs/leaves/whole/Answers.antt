@@ -2,7 +2,7 @@ use Rattle.std.proofs.Common.{◌≡◌, ◌<◌, ◌^◌, ℕ, arith, rules}
 use Rattle.var_numbers.specs.Pattern.{pattern}
 use Rattle.tree_decoder.specs.Numbers.{whole_at}
 use Rattle.tree_decoder.specs.Range.{range_of}
-use Rattle.tree_decoder.proofs.Wholes.{whole_here, whole_bad}
+use Rattle.tree_decoder.proofs.Single.{whole_here, whole_bad}
 use Rattle.tree_decoder.proofs.leaves.whole.Goals as goal
 
 pub returns-then-input-at-lt8-clause-is : goal.returns-then-input-at-lt8-clause-is

@@ -8,8 +8,7 @@ use Rattle.tree_decoder.specs.Found.{Found}
 use Rattle.container.specs.Answers.{fault}
 use Rattle.tree_decoder.specs.Range.{range_of}
 use Rattle.tree_decoder.specs.Script.{script}
-use Rattle.tree_decoder.proofs.Scripts.{script_stands, bytes_left_over, script_spends, only_memory, only_failed}
-use Rattle.tree_decoder.proofs.Whole.{named_where_stands, one_script, script_size}
+use Rattle.tree_decoder.proofs.Whole.{script_stands, bytes_left_over, script_spends, only_memory, only_failed, named_where_stands, one_script, script_size}
 use Rattle.tree_decoder.proofs.reading.whole_script.Goals as goal
 
 pub returns-then-next-input-clause-reads : goal.returns-then-next-input-clause-reads
