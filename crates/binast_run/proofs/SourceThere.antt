@@ -31,9 +31,8 @@ use Rattle.js_tree.proofs.TreesHold.{trees_are_shallow}
 use Rattle.scope_facts.specs.declared.context.Violation.{Violation}
 use Rattle.scope_facts.specs.Exact.{eval_name, exact}
 use Rattle.scope_facts.specs.Filled.{filled}
-use Rattle.scope_facts.proofs.FilledTyped.{filled_depth, filled_typed}
-use Rattle.scope_facts.proofs.FlaggedTyped.{depth_same, typed_same}
 use Rattle.scope_facts.proofs.NamesKept.{exact_names}
+use Rattle.scope_facts.proofs.Typed.{filled_depth, filled_typed, depth_same, typed_same}
 use Rattle.scope_facts.proofs.WholeKept.{exact_whole}
 use Rattle.tree_encoder.specs.File.{texts_held}
 use Rattle.tree_encoder.specs.Laws.{IsNamedScript}
@@ -42,7 +41,7 @@ use Rattle.violations.specs.Violations.{script}
 
 -- the tree of a source, with exact scopes, is a script as the files of the encoder spell them
 exact_typed : (texts : List (Option (List ℕ))) (t : Tree) → size t ≤ 2 ^ 28 → typed t ≡ true → typed (exact texts t) ≡ true
-exact_typed texts t small is = typed_same (eval_name texts) (filled t) ∙ filled_typed t small is
+exact_typed texts t small is = typed_same (eval_name texts) (filled t) (filled_typed t small is)
 
 exact_shallow : (texts : List (Option (List ℕ))) (t : Tree) → depth t ≤ 512 → depth (exact texts t) ≤ 512
 exact_shallow texts t shallow = omega (arith, shallow, depth_same (eval_name texts) (filled t), filled_depth t)

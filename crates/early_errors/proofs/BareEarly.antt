@@ -1,29 +1,34 @@
 -- A clean tree breaks the rules that its plain tree breaks.
-use Rattle.std.proofs.Common.{ℕ, List, [], ◌∷◌, ◌++◌, ◌+◌, ◌≡◌, Bool, true, false, refl, ap, sym, if◌then◌else◌, ◌∙◌, flat_map, filter_map}
+use Rattle.std.proofs.Common.{ℕ, List, [], ◌∷◌, ◌++◌, ◌+◌, ◌≡◌, Bool, true, false, refl, ap, sym, if◌then◌else◌, ◌∙◌, flat_map, filter_map, map, Option, None, Some}
 use Rattle.std.proofs.lemmas.List.{map-append}
+use Rattle.std.specs.Option.{option_map}
+use Rattle.bast_schema.specs.declared.kind.Kind.{Kind}
 use Rattle.bast_schema.specs.Tree.{Tree, branch, Datum, child, listed, Data, none, more, nodes_at, typed}
-use Rattle.bast_schema.proofs.Both.{and_first, and_second}
 use Rattle.scope_facts.specs.declared.context.Ctx.{Ctx}
 use Rattle.scope_facts.specs.declared.context.Rule.{Rule}
 use Rattle.scope_facts.specs.declared.context.Violation.{Violation}
-use Rattle.scope_facts.specs.Uses.{is_scope}
-use Rattle.scope_facts.specs.Bare.{bare, bare_scope, bare_at, bare_in}
+use Rattle.scope_facts.specs.Bare.{bare}
 use Rattle.scope_facts.specs.Exact.{exact, eval_name}
-use Rattle.scope_facts.proofs.BareSame.{bare_of_exact}
-use Rattle.scope_facts.proofs.Clean.{clean, clean_scope, clean_at, clean_in, typed_clean, exact_clean}
+use Rattle.scope_facts.proofs.Clean.{typed_clean}
+use Rattle.scope_facts.proofs.Like.{Change, LikeAt, in_scope, in_node, in_list, LikeIn, end, next}
+use Rattle.scope_facts.proofs.LikeNames.{Quiet}
+use Rattle.scope_facts.proofs.Maps.{bare_like_at}
+use Rattle.scope_facts.proofs.ExactNames.{exact_quiet, exact_like_at, bare_quiet, map_same}
+use Rattle.early_errors.specs.declared.around.Label.{Label}
 use Rattle.early_errors.specs.declared.kinds.Place.{Place}
+use Rattle.early_errors.specs.declared.kinds.Role.{Role}
 use Rattle.early_errors.specs.declared.rules.Finding.{Finding}
 use Rattle.early_errors.specs.declared.rules.Finding.TheVariants.{Holds, Broken}
 use Rattle.early_errors.specs.Kinds.{role, places}
-use Rattle.early_errors.specs.Strict.{Texts}
+use Rattle.early_errors.specs.Strict.{Texts, text_of}
 use Rattle.early_errors.specs.Around.{Around, Site, sites, sites_at, sites_in, parts_around, placed, place_first, place_rest, start}
 use Rattle.early_errors.specs.Early.{early, early_rules, found_at, violation}
-use Rattle.early_errors.specs.Laws.{unnumbered, BothSound}
+use Rattle.early_errors.specs.Laws.{unnumbered, BothSound, KeepsTexts}
 use Rattle.early_errors.specs.Reading.{Reading, reading_by}
 use Rattle.early_errors.specs.Rules.{says}
 use Rattle.early_errors.proofs.Firsts.{flat_map_append}
 use Rattle.early_errors.proofs.QuietScopes.{found_in_tree, found_in_value, found_in, scope_same}
-use Rattle.early_errors.proofs.ReadingOfBare.{eager_role, eager_places, parts_bare, reading_bare}
+use Rattle.early_errors.proofs.LikeReading.{renamed_label, renamed_around, renamed_reading, role_by, places_by, parts_like, reading_like}
 
 -- the violations without their numbers are those of the recursion
 
@@ -61,39 +66,59 @@ mutual
       (found_in_value s (placed (place_first ps) a) d) (found_in s (place_rest ps) a ds)
       (value_unnumbered s (placed (place_first ps) a) n d) (in_unnumbered s (place_rest ps) a (n + nodes_at d) ds)
 
--- what is found in the plain tree
+-- what is found in trees that are alike, where no number changes
 
-found_field : (s : Texts) (a : Around) (d : Datum) (b : Bool) → is_scope d ≡ b → (if b then clean_scope d else clean_at d) ≡ true
-    → (clean_at d ≡ true → found_in_value s a (bare_at d) ≡ found_in_value s a d) → found_in_value s a (if b then bare_scope d else bare_at d) ≡ found_in_value s a d
-found_field s a (child (branch k ds)) true e h g = scope_same s a k ds e h
-found_field s a _ true e h g = cc
-found_field s a d false e h g = g h
+record Still (m : Change) : Type 0 where
+  quiet : Quiet m
+  same : (n : ℕ) → m.number n ≡ n
+
+option_same : (r : ℕ → ℕ) → ((n : ℕ) → r n ≡ n) → (o : Option ℕ) → option_map r o ≡ o
+option_same r h None = refl
+option_same r h (Some n) = ap Some (h n)
+
+labels_same : (r : ℕ → ℕ) → ((n : ℕ) → r n ≡ n) → (ls : List Label) → map (renamed_label r) ls ≡ ls
+labels_same r h = map_same (renamed_label r) (λ l. ap (λ n. record { name = n; looped = l.looped }) (h l.name))
+
+around_same : (r : ℕ → ℕ) → ((n : ℕ) → r n ≡ n) → (a : Around) → renamed_around r a ≡ a
+around_same r h a = rw (labels_same r h a.labels) refl
+
+reading_same : (r : ℕ → ℕ) → ((n : ℕ) → r n ≡ n) → (x : Reading) → renamed_reading r x ≡ x
+reading_same r h x = rw (labels_same r h x.labels, option_same r h x.name, map_same r h x.lexicals, map_same r h x.vars, map_same r h x.parameters, map_same r h x.caught, map_same r h x.block, option_same r h x.bare, option_same r h x.deleted) refl
+
+texts_same : {m : Change} → Still m → (s : Texts) → KeepsTexts m.number m.holds s s
+texts_same p s n h = ap (λ k. text_of s (Some k)) (p.same n)
+
+same_reading : {m : Change} → Still m → (s : Texts) (a : Around) (ro : Role) {ds es : Data} → LikeIn m ds es → reading_by s a ro es ≡ reading_by s a ro ds
+same_reading {m} p s a ro {ds = ds} {es = es} l =
+    ap (λ (x : Around). reading_by s x ro es) (sym (around_same m.number p.same a)) ∙ reading_like {m = m} p.quiet s s (texts_same p s) a ro l ∙ reading_same m.number p.same (reading_by s a ro ds)
+
+same_parts : {m : Change} → Still m → (s : Texts) (a : Around) (ro : Role) {ds es : Data} → LikeIn m ds es → parts_around s ro es a ≡ parts_around s ro ds a
+same_parts {m} p s a ro {ds = ds} {es = es} l =
+    ap (λ (x : Around). parts_around s ro es x) (sym (around_same m.number p.same a)) ∙ parts_like {m = m} s s (texts_same p s) ro a l ∙ around_same m.number p.same (parts_around s ro ds a)
 
 mutual
-  tree_bare : (s : Texts) (a : Around) (t : Tree) → clean t ≡ true → found_in_tree s a (bare t) ≡ found_in_tree s a t
-  tree_bare s a (branch k ds) h = rw (eager_role k, eager_places k, reading_bare s a (role k) ds h, parts_bare s (role k) ds a, in_bare s (places k) (parts_around s (role k) ds a) ds h) refl
+  found_at_like : {m : Change} → Still m → (s : Texts) (a : Around) {c d : Datum} → LikeAt m c d → found_in_value s a d ≡ found_in_value s a c
+  found_at_like {m} p s a (in_node k ds es l) = rw (role_by m.eagerly k, places_by m.eagerly k, same_reading p s a (role k) l, same_parts p s a (role k) l, found_like p s (places k) (parts_around s (role k) ds a) l) refl
+  found_at_like p s a (in_scope k ds es e h) = scope_same s a k ds es e (p.quiet.before k ds es h) (p.quiet.after k ds es h)
+  found_at_like p s a (in_list ds es l) = found_like p s [] a l
+  found_at_like p s a _ = refl
 
-  value_bare : (s : Texts) (a : Around) (d : Datum) → clean_at d ≡ true → found_in_value s a (bare_at d) ≡ found_in_value s a d
-  value_bare s a (child t) h = tree_bare s a t h
-  value_bare s a (listed ds) h = in_bare s [] a ds h
-  value_bare s a _ h = refl
+  found_like : {m : Change} → Still m → (s : Texts) (ps : List Place) (a : Around) {ds es : Data} → LikeIn m ds es → found_in s ps a es ≡ found_in s ps a ds
+  found_like p s ps a end = refl
+  found_like p s ps a (next c d cs ds h l) = rw (found_at_like p s (placed (place_first ps) a) h, found_like p s (place_rest ps) a l) refl
 
-  in_bare : (s : Texts) (ps : List Place) (a : Around) (ds : Data) → clean_in ds ≡ true → found_in s ps a (bare_in ds) ≡ found_in s ps a ds
-  in_bare s ps a none h = refl
-  in_bare s ps a (more d ds) h =
-      rw (
-        found_field s (placed (place_first ps) a) d (is_scope d) refl (and_first (if is_scope d then clean_scope d else clean_at d) (clean_in ds) h) (value_bare s (placed (place_first ps) a) d),
-        in_bare s (place_rest ps) a ds (and_second (if is_scope d then clean_scope d else clean_at d) (clean_in ds) h),
-      ) refl
-
-clean_early : (s : Texts) (c : Ctx) (t : Tree) → clean t ≡ true → unnumbered (early s c t) ≡ unnumbered (early s c (bare t))
-clean_early s c t h = tree_unnumbered s (start c) 0 t ∙ sym (tree_bare s (start c) t h) ∙ sym (tree_unnumbered s (start c) 0 (bare t))
+bare_found : (s : Texts) (a : Around) (t : Tree) → typed t ≡ true → found_in_tree s a (bare t) ≡ found_in_tree s a t
+bare_found s a (branch k ds) h = found_at_like (record { quiet = bare_quiet; same = λ n. refl }) s a (bare_like_at (child (branch k ds)) (typed_clean (branch k ds) h))
 
 pub own_scopes_break_no_rule : (s : Texts) (c : Ctx) (t : Tree) → typed t ≡ true → unnumbered (early s c t) ≡ unnumbered (early s c (bare t))
-own_scopes_break_no_rule s c t h = clean_early s c t (typed_clean t h)
+own_scopes_break_no_rule s c t h = tree_unnumbered s (start c) 0 t ∙ sym (bare_found s (start c) t h) ∙ sym (tree_unnumbered s (start c) 0 (bare t))
 
 pub scopes_break_no_rule : (s : Texts) (c : Ctx) (t : Tree) → typed t ≡ true → unnumbered (early s c (exact s t)) ≡ unnumbered (early s c (bare t))
-scopes_break_no_rule s c t h = clean_early s c (exact s t) (exact_clean (eval_name s) t h) ∙ ap (λ u. unnumbered (early s c u)) (bare_of_exact s t)
+scopes_break_no_rule s c t h =
+    tree_unnumbered s (start c) 0 (exact s t)
+    ∙ found_at_like (record { quiet = exact_quiet; same = λ n. refl }) s (start c) (exact_like_at (eval_name s) (child t) (typed_clean t h))
+    ∙ sym (tree_unnumbered s (start c) 0 t)
+    ∙ own_scopes_break_no_rule s c t h
 
 -- no violation under any numbers
 none_there : (us vs : List Violation) → unnumbered us ≡ unnumbered vs → us ≡ [] → vs ≡ []

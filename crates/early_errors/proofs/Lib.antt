@@ -4,9 +4,8 @@ pub mod Choosing
 pub mod Firsts
 pub mod Inside
 pub mod QuietScopes
-pub mod ReadingOfBare
+pub mod LikeReading
 pub mod RenamedEarly
-pub mod RenamedReading
 pub mod RenamedRules
 mod Rows
 pub mod Seen

@@ -5,8 +5,7 @@ use Rattle.bast_schema.specs.declared.kind.Kind.TheVariants.{AssertedScriptGloba
 use Rattle.bast_schema.specs.Tree.{Tree, branch, Datum, child, listed, Data, none, more}
 use Rattle.bast_schema.proofs.Both.{and_first, and_second}
 use Rattle.scope_facts.specs.declared.context.Violation.{Violation}
-use Rattle.scope_facts.specs.Roles.{part, is_scope_part, shape_of}
-use Rattle.scope_facts.specs.Bare.{empty_fields}
+use Rattle.scope_facts.specs.Roles.{part, is_scope_part}
 use Rattle.scope_facts.proofs.Clean.{are_leaves, is_entry_kind, is_entry_node, are_entries, only_entries}
 use Rattle.early_errors.specs.declared.kinds.Place.{Place}
 use Rattle.early_errors.specs.declared.kinds.Place.TheVariants as place
@@ -17,7 +16,7 @@ use Rattle.early_errors.specs.Around.{Around, parts_around, placed, place_first,
 use Rattle.early_errors.specs.Early.{early_rules, violation}
 use Rattle.early_errors.specs.Reading.{Reading, reading_by}
 use Rattle.early_errors.specs.Rules.{says}
-use Rattle.early_errors.proofs.ReadingOfBare.{scope_role, empty_only}
+use Rattle.early_errors.proofs.LikeReading.{scope_role}
 
 -- what the rules find where they read this, under the number 0
 abbrev pub found_by : Reading → List Violation
@@ -53,23 +52,17 @@ leaves_quiet s a (more (child t) fs) h = cc
 leaves_quiet s a (more (listed es) fs) h = cc
 leaves_quiet s a (more _ fs) h = leaves_quiet s a fs h
 
-entry_role : (k : Kind) → is_entry_kind k ≡ true → role k ≡ Plain
-entry_role AssertedDeclaredName h = refl
-entry_role AssertedPositionalParameterName h = refl
-entry_role AssertedRestParameterName h = refl
-entry_role AssertedBoundName h = refl
-entry_role _ h = cc
-
-entry_places : (k : Kind) → is_entry_kind k ≡ true → places k ≡ []
-entry_places AssertedDeclaredName h = refl
-entry_places AssertedPositionalParameterName h = refl
-entry_places AssertedRestParameterName h = refl
-entry_places AssertedBoundName h = refl
-entry_places _ h = cc
+entry_plain : (k : Kind) → is_entry_kind k ≡ true → (role k ≡ Plain) × (places k ≡ [])
+entry_plain AssertedDeclaredName h = (refl, refl)
+entry_plain AssertedPositionalParameterName h = (refl, refl)
+entry_plain AssertedRestParameterName h = (refl, refl)
+entry_plain AssertedBoundName h = (refl, refl)
+entry_plain _ h = cc
 
 entry_quiet : (s : Texts) (a : Around) (d : Datum) → is_entry_node d ≡ true → found_in_value s (placed place.Plain a) d ≡ []
 entry_quiet s a (child (branch k fs)) h =
-    rw (entry_role k (and_first (is_entry_kind k) (are_leaves fs) h), entry_places k (and_first (is_entry_kind k) (are_leaves fs) h), plain_quiet s a fs) (leaves_quiet s (placed place.Plain a) fs (and_second (is_entry_kind k) (are_leaves fs) h))
+    let plain : (role k ≡ Plain) × (places k ≡ []) = entry_plain k (and_first (is_entry_kind k) (are_leaves fs) h)
+    in rw (plain.0, plain.1, plain_quiet s a fs) (leaves_quiet s (placed place.Plain a) fs (and_second (is_entry_kind k) (are_leaves fs) h))
 entry_quiet s a _ h = cc
 
 entries_quiet : (s : Texts) (a : Around) (es : Data) → are_entries es ≡ true → found_in s [] a es ≡ []
@@ -95,5 +88,5 @@ scope_places _ s = cc
 scope_alone : (s : Texts) (a : Around) (k : Kind) (ds : Data) → is_scope_part (part k) ≡ true → only_entries ds ≡ true → found_in_tree s a (branch k ds) ≡ found_by (reading_by s a Plain none) ++ []
 scope_alone s a k ds e h = rw (scope_role k e, scope_places k e, plain_same s a ds none, fields_quiet s (parts_around s Plain ds a) ds h) refl
 
-pub scope_same : (s : Texts) (a : Around) (k : Kind) (ds : Data) → is_scope_part (part k) ≡ true → only_entries ds ≡ true → found_in_tree s a (branch k (empty_fields (shape_of k))) ≡ found_in_tree s a (branch k ds)
-scope_same s a k ds e h = scope_alone s a k (empty_fields (shape_of k)) e (empty_only (shape_of k)) ∙ sym (scope_alone s a k ds e h)
+pub scope_same : (s : Texts) (a : Around) (k : Kind) (ds es : Data) → is_scope_part (part k) ≡ true → only_entries ds ≡ true → only_entries es ≡ true → found_in_tree s a (branch k es) ≡ found_in_tree s a (branch k ds)
+scope_same s a k ds es e h g = scope_alone s a k es e g ∙ sym (scope_alone s a k ds e h)

@@ -13,7 +13,7 @@ use Rattle.early_errors.specs.Strict.{has_text}
 use Rattle.early_errors.specs.Repeats.{repeat_from, repeated, is_among, shared}
 use Rattle.early_errors.specs.Reading.{Reading}
 use Rattle.early_errors.specs.Rules.{where_so, by_name, if_so, not_for, at_contents, is_arrow, is_assigned, is_restricted, is_word, is_strict_word, is_return, is_stray, is_around, unknown, unknown_by, nested, nested_by, at_for, is_target, misnamed, is_unspelled, says}
-use Rattle.early_errors.proofs.RenamedReading.{renamed_label, renamed_reading, if_option}
+use Rattle.early_errors.proofs.LikeReading.{renamed_label, renamed_reading, if_option}
 
 -- what is found, with another number for its name
 abbrev pub renamed_finding : (ℕ → ℕ) → Finding → Finding

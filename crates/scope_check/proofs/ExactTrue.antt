@@ -21,10 +21,9 @@ use Rattle.scope_facts.specs.Filled.{filled_scope, filled, filled_at, filled_in,
 use Rattle.scope_facts.specs.Flagged.{with_flag, entries_by, flagged_scope, flagged, flagged_at, flagged_in, flagged_among}
 use Rattle.scope_facts.specs.Frames.{Frame, frame, fine_use, inside, respects, respects_at, respects_in, respects_among}
 use Rattle.scope_facts.specs.Reading.{says_eval, evals_told, evals_told_at, evals_told_in, evals_told_among}
-use Rattle.scope_facts.proofs.BareSame.{is_filled_scope, is_filled, is_flagged_scope, is_flagged}
-use Rattle.scope_facts.proofs.Clean.{item_plain, takes_scope, is_plain_list, all_plain_lists, plain_lists, child_typed, clean_in, fit_clean, exact_clean_in}
-use Rattle.scope_facts.proofs.ExactNames.{bound_exact, entries_exact, is_simple_exact}
-use Rattle.scope_facts.proofs.Kept.{uses_captured, evals_are_told}
+use Rattle.scope_facts.proofs.Clean.{item_plain, takes_scope, is_plain_list, all_plain_lists, plain_lists, child_typed, clean_in, fit_clean}
+use Rattle.scope_facts.proofs.ExactNames.{is_filled_scope, is_filled, bound_exact, entries_exact, is_simple_exact}
+use Rattle.scope_facts.proofs.Kept.{is_flagged_scope, is_flagged, uses_captured, evals_are_told}
 use Rattle.scope_check.specs.declared.finding.Finding.TheVariants.{Fine}
 use Rattle.scope_check.specs.Entries.{keys, differing, flags_agree, judged_flag, judged, says_by}
 use Rattle.scope_check.specs.Untrue.{entries_rule, found, untrue_scope, untrue_from, untrue_at, untrue_in, untrue_among, frames_inside, all_tell, untrue}
@@ -59,10 +58,10 @@ says_fine shape.Nothing c b ns after later e f a = refl
 
 -- the values behind a scope: `after` as they were, and with exact scopes
 scope_true : (e : Option ℕ) (n : ℕ) (ns : List ℕ) (d : Datum) (after : Data) (t : FieldType) (ts : List FieldType) → (has_bound_scope (t ∷ ts) ≡ true → at_most_one ns ≡ true) → fits t d ≡ true → fit ts after ≡ true
-    → clean_in (flagged_in e (filled_in ns after)) ≡ true → untrue_scope n ns (flagged_scope e (filled_scope ns d after) (filled_in ns after)) (flagged_in e (filled_in ns after)) ≡ []
+    → clean_in after ≡ true → untrue_scope n ns (flagged_scope e (filled_scope ns d after) (filled_in ns after)) (flagged_in e (filled_in ns after)) ≡ []
 scope_true e n ns (child (branch k ds)) after t ts once f g c =
     ap (found n (entries_rule (shape_of k))) (says_fine (shape_of k) (λ x. crossed_in x (filled_in ns after)) (evals_in e (filled_in ns after)) ns after (flagged_in e (filled_in ns after))
-    (entries_exact (shape_of k) ns e ns after (fit_clean after ts g) c) (is_simple_exact e ns after)
+    (entries_exact (shape_of k) ns e ns after c) (is_simple_exact e ns after c)
     (entries_apart (shape_of k) ns after (λ s. once (holds_bound_scope k t ts ds s f)) (one_rest_fits ts after g)))
 scope_true e n ns _ after t ts once f g c = refl
 
@@ -136,16 +135,16 @@ node_true e fs told n k ds h r v = rw (
     (h (inside (part k) fs) (and_second (fine_use fs (part k) ds) (respects_in (inside (part k) fs) ds) r) (and_second (not (is_eval e (part k) ds) || told) (evals_told_in e told ds) v))
 
 -- what stands around the names of a node: they are those that its values bind with exact scopes too
-bound_true : (e : Option ℕ) (fs : List Frame) (told : Bool) (n : ℕ) (ns : List ℕ) (ds : Data) → bound ds ≡ ns
+bound_true : (e : Option ℕ) (fs : List Frame) (told : Bool) (n : ℕ) (ns : List ℕ) (ds : Data) → clean_in ds ≡ true → bound ds ≡ ns
     → (respects_in fs (flagged_in e (filled_in ns ds)) ≡ true → evals_told_in e told (flagged_in e (filled_in ns ds)) ≡ true → untrue_in e fs told ns n (flagged_in e (filled_in ns ds)) ≡ [])
     → respects_in fs (flagged_in e (filled_in ns ds)) ≡ true → evals_told_in e told (flagged_in e (filled_in ns ds)) ≡ true → untrue_in e fs told (bound (flagged_in e (filled_in ns ds))) n (flagged_in e (filled_in ns ds)) ≡ []
-bound_true e fs told n ns ds b h = rw (bound_exact e ns ds, b) h
+bound_true e fs told n ns ds c b h = rw (bound_exact e ns ds c, b) h
 
 mutual
   pub true_from : (e : Option ℕ) (fs : List Frame) (told : Bool) (n : ℕ) (t : Tree) → typed t ≡ true → respects fs (flagged e (filled t)) ≡ true → evals_told e told (flagged e (filled t)) ≡ true
       → untrue_from e fs told n (flagged e (filled t)) ≡ []
   true_from e fs told n (branch k ds) f = node_true e fs told n k (flagged_in e (filled_in (bound ds) ds))
-      (λ gs. bound_true e gs told (n + 1) (bound ds) ds refl (true_in e gs told (bound ds) (n + 1) ds (fields k) (plain_lists k) f (names_once k ds f)))
+      (λ gs. bound_true e gs told (n + 1) (bound ds) ds (fit_clean ds (fields k) (plain_lists k) f) refl (true_in e gs told (bound ds) (n + 1) ds (fields k) (plain_lists k) f (names_once k ds f)))
 
   pub true_at : (e : Option ℕ) (fs : List Frame) (told : Bool) (n : ℕ) (d : Datum) (t : FieldType) → is_plain_list t ≡ true → fits t d ≡ true → respects_at fs (flagged_at e (filled_at d)) ≡ true
       → evals_told_at e told (flagged_at e (filled_at d)) ≡ true → untrue_at e fs told n (flagged_at e (filled_at d)) ≡ []
@@ -163,7 +162,7 @@ mutual
       in let f2 : fit ts ds ≡ true = and_second (fits t d) (fit ts ds) f
       in let p2 : all_plain_lists ts ≡ true = and_second (is_plain_list t) (all_plain_lists ts) p
       in field_true e fs told ns n d ds (is_scope d) refl
-      (λ s. scope_true e n ns d ds t ts once f1 f2 (exact_clean_in e ns ds ts p2 f2))
+      (λ s. scope_true e n ns d ds t ts once f1 f2 (fit_clean ds ts p2 f2))
       (true_at e fs told n d t (and_first (is_plain_list t) (all_plain_lists ts) p) f1)
       (λ gs c m. true_in e gs c ns m ds ts p2 f2 (λ b. once (or_right (takes AssertedBoundNamesScope t) (has_bound_scope ts) b))) r v
 

@@ -1,104 +1,50 @@
 -- The bare tree does not see entries and flags.
 use Rattle.std.proofs.Common.{ℕ, List, ◌≡◌, Bool, true, false, refl, ap, if◌then◌else◌, ◌∙◌, Option}
-use Rattle.bast_schema.specs.Tree.{Tree, branch, Datum, child, listed, Data, none, more}
+use Rattle.bast_schema.specs.declared.kind.Kind.{Kind}
+use Rattle.bast_schema.specs.Tree.{Tree, branch, Datum, child, listed, flag, name, Data, none, more}
+use Rattle.scope_facts.specs.Roles.{part, is_scope_part, shape_of}
 use Rattle.scope_facts.specs.Uses.{is_scope}
 use Rattle.scope_facts.specs.Names.{bound}
-use Rattle.scope_facts.specs.Filled.{filled_scope, filled, filled_at, filled_in, filled_among}
-use Rattle.scope_facts.specs.Flagged.{flagged_scope, flagged, flagged_at, flagged_in, flagged_among}
+use Rattle.scope_facts.specs.Filled.{filled, filled_in}
+use Rattle.scope_facts.specs.Flagged.{flagged, flagged_in, fields_by}
 use Rattle.scope_facts.specs.Exact.{exact, eval_name}
-use Rattle.scope_facts.specs.Bare.{eager, bare_scope, bare, bare_at, bare_in}
+use Rattle.scope_facts.specs.Bare.{eager, empty_fields, bare_scope, bare, bare_at, bare_in}
+use Rattle.scope_facts.proofs.Like.{Change, LikeAt, in_scope, in_node, in_list, a_name, a_flag, LikeIn, end, next}
+use Rattle.scope_facts.proofs.NamesKept.{le_self, any_filled_in, flagging, flagged_like}
+use Rattle.bast_schema.specs.Counts.{size_in}
 
--- filled
+-- a map that changes scopes alone
+record Aside (m : Change) : Type 0 where
+  lazily : m.eagerly ≡ false
+  same : (n : ℕ) → m.number n ≡ n
+  flags : (b c : Bool) → m.flags b c → b ≡ c
 
-filled_scope_same : (names : List ℕ) (d : Datum) (after : Data) → bare_scope (filled_scope names d after) ≡ bare_scope d
-filled_scope_same names (child (branch k ds)) after = refl
-filled_scope_same names _ after = refl
+node_same : (b : Bool) (k : Kind) (ds es : Data) → bare_in es ≡ bare_in ds
+    → (if b then child (branch k (empty_fields (shape_of k))) else child (branch (eager k) (bare_in es))) ≡ (if b then child (branch k (empty_fields (shape_of k))) else child (branch (eager k) (bare_in ds)))
+node_same b k ds es h = rw h refl
 
-pub is_filled_scope : (names : List ℕ) (d : Datum) (after : Data) → is_scope (filled_scope names d after) ≡ is_scope d
-is_filled_scope names (child (branch k ds)) after = refl
-is_filled_scope names _ after = refl
-
-pub is_filled : (d : Datum) → is_scope (filled_at d) ≡ is_scope d
-is_filled (child (branch k ds)) = refl
-is_filled _ = refl
-
-filled_field : (names : List ℕ) (d : Datum) (after : Data) (b : Bool) → is_scope d ≡ b → bare_at (filled_at d) ≡ bare_at d
-    → (if is_scope (if b then filled_scope names d after else filled_at d) then bare_scope (if b then filled_scope names d after else filled_at d) else bare_at (if b then filled_scope names d after else filled_at d))
-    ≡ (if b then bare_scope d else bare_at d)
-filled_field names d after true s h = rw (is_filled_scope names d after, s) (filled_scope_same names d after)
-filled_field names d after false s h = rw (is_filled d, s) h
-
-scope_filled : (d : Datum) → is_scope d ≡ true → bare_scope (filled_at d) ≡ bare_scope d
-scope_filled (child (branch k ds)) s = refl
-scope_filled _ s = cc
-
-filled_item : (d : Datum) (b : Bool) → is_scope d ≡ b → bare_at (filled_at d) ≡ bare_at d
-    → (if is_scope (filled_at d) then bare_scope (filled_at d) else bare_at (filled_at d)) ≡ (if is_scope d then bare_scope d else bare_at d)
-filled_item d true s h = rw (is_filled d, s) (scope_filled d s)
-filled_item d false s h = rw (is_filled d, s) h
+scope_same : (b : Bool) (k : Kind) (ds es : Data) → b ≡ true
+    → (if b then child (branch k (empty_fields (shape_of k))) else child (branch (eager k) (bare_in es))) ≡ (if b then child (branch k (empty_fields (shape_of k))) else child (branch (eager k) (bare_in ds)))
+scope_same b k ds es h = rw h refl
 
 mutual
-  pub filled_same : (t : Tree) → bare (filled t) ≡ bare t
-  filled_same (branch k ds) = ap (branch (eager k)) (filled_same_in (bound ds) ds)
+  same_at : {m : Change} → Aside m → {c d : Datum} → LikeAt m c d → (if is_scope d then bare_scope d else bare_at d) ≡ (if is_scope c then bare_scope c else bare_at c)
+  same_at p (in_scope k ds es s o) = scope_same (is_scope_part (part k)) k ds es s
+  same_at p (in_node k ds es l) = rw p.lazily (node_same (is_scope_part (part k)) k ds es (same_in p l))
+  same_at p (in_list ds es l) = ap listed (same_in p l)
+  same_at p (a_name n h) = ap name (p.same n)
+  same_at p (a_flag b c h) = rw (p.flags b c h) refl
+  same_at p _ = refl
 
-  pub filled_same_at : (d : Datum) → bare_at (filled_at d) ≡ bare_at d
-  filled_same_at (child t) = ap child (filled_same t)
-  filled_same_at (listed ds) = ap listed (filled_same_among ds)
-  filled_same_at _ = refl
+  same_in : {m : Change} → Aside m → {ds es : Data} → LikeIn m ds es → bare_in es ≡ bare_in ds
+  same_in p end = refl
+  same_in p (next c d cs ds h l) = rw (same_at p h, same_in p l) refl
 
-  pub filled_same_in : (names : List ℕ) (ds : Data) → bare_in (filled_in names ds) ≡ bare_in ds
-  filled_same_in names none = refl
-  filled_same_in names (more d ds) = rw (filled_field names d ds (is_scope d) refl (filled_same_at d), filled_same_in names ds) refl
+filled_same_in : (ns : List ℕ) (ds : Data) → bare_in (filled_in ns ds) ≡ bare_in ds
+filled_same_in ns ds = same_in (record { lazily = refl; same = λ n. refl; flags = λ b c e. e }) (any_filled_in ns ds (size_in ds) (le_self (size_in ds)))
 
-  pub filled_same_among : (ds : Data) → bare_in (filled_among ds) ≡ bare_in ds
-  filled_same_among none = refl
-  filled_same_among (more d ds) = rw (filled_item d (is_scope d) refl (filled_same_at d), filled_same_among ds) refl
-
--- flagged
-
-flagged_scope_same : (e : Option ℕ) (d : Datum) (after : Data) → bare_scope (flagged_scope e d after) ≡ bare_scope d
-flagged_scope_same e (child (branch k ds)) after = refl
-flagged_scope_same e _ after = refl
-
-pub is_flagged_scope : (e : Option ℕ) (d : Datum) (after : Data) → is_scope (flagged_scope e d after) ≡ is_scope d
-is_flagged_scope e (child (branch k ds)) after = refl
-is_flagged_scope e _ after = refl
-
-pub is_flagged : (e : Option ℕ) (d : Datum) → is_scope (flagged_at e d) ≡ is_scope d
-is_flagged e (child (branch k ds)) = refl
-is_flagged e _ = refl
-
-scope_flagged : (e : Option ℕ) (d : Datum) → is_scope d ≡ true → bare_scope (flagged_at e d) ≡ bare_scope d
-scope_flagged e (child (branch k ds)) s = refl
-scope_flagged e _ s = cc
-
-flagged_field : (e : Option ℕ) (d : Datum) (after : Data) (b : Bool) → is_scope d ≡ b → bare_at (flagged_at e d) ≡ bare_at d
-    → (if is_scope (if b then flagged_scope e d after else flagged_at e d) then bare_scope (if b then flagged_scope e d after else flagged_at e d) else bare_at (if b then flagged_scope e d after else flagged_at e d))
-    ≡ (if b then bare_scope d else bare_at d)
-flagged_field e d after true s h = rw (is_flagged_scope e d after, s) (flagged_scope_same e d after)
-flagged_field e d after false s h = rw (is_flagged e d, s) h
-
-flagged_item : (e : Option ℕ) (d : Datum) (b : Bool) → is_scope d ≡ b → bare_at (flagged_at e d) ≡ bare_at d
-    → (if is_scope (flagged_at e d) then bare_scope (flagged_at e d) else bare_at (flagged_at e d)) ≡ (if is_scope d then bare_scope d else bare_at d)
-flagged_item e d true s h = rw (is_flagged e d, s) (scope_flagged e d s)
-flagged_item e d false s h = rw (is_flagged e d, s) h
-
-mutual
-  pub flagged_same : (e : Option ℕ) (t : Tree) → bare (flagged e t) ≡ bare t
-  flagged_same e (branch k ds) = ap (branch (eager k)) (flagged_same_in e ds)
-
-  pub flagged_same_at : (e : Option ℕ) (d : Datum) → bare_at (flagged_at e d) ≡ bare_at d
-  flagged_same_at e (child t) = ap child (flagged_same e t)
-  flagged_same_at e (listed ds) = ap listed (flagged_same_among e ds)
-  flagged_same_at e _ = refl
-
-  pub flagged_same_in : (e : Option ℕ) (ds : Data) → bare_in (flagged_in e ds) ≡ bare_in ds
-  flagged_same_in e none = refl
-  flagged_same_in e (more d ds) = rw (flagged_field e d ds (is_scope d) refl (flagged_same_at e d), flagged_same_in e ds) refl
-
-  pub flagged_same_among : (e : Option ℕ) (ds : Data) → bare_in (flagged_among e ds) ≡ bare_in ds
-  flagged_same_among e none = refl
-  flagged_same_among e (more d ds) = rw (flagged_item e d (is_scope d) refl (flagged_same_at e d), flagged_same_among e ds) refl
+flagged_same_in : (e : Option ℕ) (ds : Data) → bare_in (flagged_in e ds) ≡ bare_in ds
+flagged_same_in e ds = same_in (record { lazily = refl; same = λ n. refl; flags = λ b c q. q }) (flagged_like (λ k ds es. Unit) (λ b c. b ≡ c) (λ k fs c b s. in_scope k fs (fields_by c b fs) s tt) (λ b. refl) e ds)
 
 pub bare_of_exact : (texts : List (Option (List ℕ))) (t : Tree) → bare (exact texts t) ≡ bare t
-bare_of_exact texts t = flagged_same (eval_name texts) (filled t) ∙ filled_same t
+bare_of_exact texts (branch k ds) = ap (branch (eager k)) (flagged_same_in (eval_name texts) (filled_in (bound ds) ds) ∙ filled_same_in (bound ds) ds)

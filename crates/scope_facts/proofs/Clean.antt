@@ -1,4 +1,4 @@
--- Scopes in which only entries stand, as those of a well-typed tree and of an exact one.
+-- Scopes in which only entries stand, as those of a well-typed tree.
 use Rattle.std.proofs.Common.{ℕ, List, [], ◌∷◌, ◌+◌, ◌≡◌, Bool, true, false, refl, ap, sym, ◌∙◌, ◌&&◌, ◌||◌, not, if◌then◌else◌, Option, None, Some}
 use Rattle.std.specs.List.{list_any}
 use Rattle.bast_schema.specs.declared.kind.Kind.{Kind}
@@ -25,8 +25,6 @@ use Rattle.scope_facts.specs.Names.{bound, once, tops_in, lexicals_in, lexicals_
 use Rattle.scope_facts.specs.Entries.{declared_entries, bound_entries, rest_entries, place_entry, parameter_name, item_entries, list_entries, parameter_entries_by, parameter_entries_at, parameter_entries, entries, flags_by, is_simple}
 use Rattle.scope_facts.specs.Filled.{filled_scope, filled, filled_at, filled_in, filled_among}
 use Rattle.scope_facts.specs.Flagged.{with_flag, entries_by, flagged_scope, flagged, flagged_at, flagged_in, flagged_among}
-use Rattle.scope_facts.proofs.NamesKept.{Entered, all_entered}
-use Rattle.scope_facts.proofs.BareSame.{is_filled_scope, is_filled, is_flagged_scope, is_flagged}
 
 -- whether no node is among the values
 abbrev pub are_leaves : Data → Bool
@@ -64,20 +62,23 @@ abbrev pub clean_scope : Datum → Bool
 clean_scope (child (branch k ds)) = only_entries ds
 clean_scope _ = true
 
--- whether all scopes below have nothing but entries
+-- whether all scopes below have nothing but entries, and none is the item of a list
 abbrev mutual
   pub clean : Tree → Bool
   clean (branch k ds) = clean_in ds
 
   pub clean_at : Datum → Bool
   clean_at (child t) = clean t
-  clean_at (listed ds) = clean_in ds
+  clean_at (listed ds) = clean_among ds
   clean_at _ = true
 
-  -- of the fields of a node, or the items of a list
   pub clean_in : Data → Bool
   clean_in none = true
   clean_in (more d ds) = (if is_scope d then clean_scope d else clean_at d) && clean_in ds
+
+  pub clean_among : Data → Bool
+  clean_among none = true
+  clean_among (more d ds) = not (is_scope d) && (clean_at d && clean_among ds)
 
 -- entries declare nothing themselves
 
@@ -87,41 +88,38 @@ leaves_vars (more (child t) fs) h = cc
 leaves_vars (more (listed es) fs) h = cc
 leaves_vars (more _ fs) h = leaves_vars fs h
 
-entry_vars : (d : Datum) → is_entry_node d ≡ true → vars_at d ≡ []
-entry_vars (child (branch AssertedDeclaredName fs)) h = leaves_vars fs h
-entry_vars (child (branch AssertedPositionalParameterName fs)) h = leaves_vars fs h
-entry_vars (child (branch AssertedRestParameterName fs)) h = leaves_vars fs h
-entry_vars (child (branch AssertedBoundName fs)) h = leaves_vars fs h
-entry_vars (child (branch _ fs)) h = cc
-entry_vars _ h = cc
+abbrev no_names : Datum → Type 0
+no_names d = (vars_at d ≡ []) × (lexicals_at d ≡ [])
 
-entries_vars : (es : Data) → are_entries es ≡ true → vars_in es ≡ []
-entries_vars none h = refl
-entries_vars (more d es) h = rw (entry_vars d (and_first (is_entry_node d) (are_entries es) h), entries_vars es (and_second (is_entry_node d) (are_entries es) h)) refl
+abbrev no_names_in : Data → Type 0
+no_names_in ds = (vars_in ds ≡ []) × (lexicals_in ds ≡ [])
+
+entry_quiet : (d : Datum) → is_entry_node d ≡ true → no_names d
+entry_quiet (child (branch AssertedDeclaredName fs)) h = (leaves_vars fs h, refl)
+entry_quiet (child (branch AssertedPositionalParameterName fs)) h = (leaves_vars fs h, refl)
+entry_quiet (child (branch AssertedRestParameterName fs)) h = (leaves_vars fs h, refl)
+entry_quiet (child (branch AssertedBoundName fs)) h = (leaves_vars fs h, refl)
+entry_quiet (child (branch _ fs)) h = cc
+entry_quiet _ h = cc
+
+more_quiet : (d : Datum) (ds : Data) → no_names d → no_names_in ds → no_names_in (more d ds)
+more_quiet d ds e f = (rw (e.0, f.0) refl, rw (e.1, f.1) refl)
+
+entries_quiet : (es : Data) → are_entries es ≡ true → no_names_in es
+entries_quiet none h = (refl, refl)
+entries_quiet (more d es) h = more_quiet d es (entry_quiet d (and_first (is_entry_node d) (are_entries es) h)) (entries_quiet es (and_second (is_entry_node d) (are_entries es) h))
+
+scope_quiet : (ds : Data) → only_entries ds ≡ true → no_names_in ds
+scope_quiet none h = (refl, refl)
+scope_quiet (more (child t) ds) h = cc
+scope_quiet (more (listed es) ds) h = more_quiet (listed es) ds (entries_quiet es (and_first (are_entries es) (only_entries ds) h)) (scope_quiet ds (and_second (are_entries es) (only_entries ds) h))
+scope_quiet (more _ ds) h = scope_quiet ds h
 
 pub scope_vars : (ds : Data) → only_entries ds ≡ true → vars_in ds ≡ []
-scope_vars none h = refl
-scope_vars (more (child t) ds) h = cc
-scope_vars (more (listed es) ds) h = rw (entries_vars es (and_first (are_entries es) (only_entries ds) h), scope_vars ds (and_second (are_entries es) (only_entries ds) h)) refl
-scope_vars (more _ ds) h = scope_vars ds h
-
-entry_lexicals : (d : Datum) → is_entry_node d ≡ true → lexicals_at d ≡ []
-entry_lexicals (child (branch AssertedDeclaredName fs)) h = refl
-entry_lexicals (child (branch AssertedPositionalParameterName fs)) h = refl
-entry_lexicals (child (branch AssertedRestParameterName fs)) h = refl
-entry_lexicals (child (branch AssertedBoundName fs)) h = refl
-entry_lexicals (child (branch _ fs)) h = cc
-entry_lexicals _ h = cc
-
-entries_lexicals : (es : Data) → are_entries es ≡ true → lexicals_in es ≡ []
-entries_lexicals none h = refl
-entries_lexicals (more d es) h = rw (entry_lexicals d (and_first (is_entry_node d) (are_entries es) h), entries_lexicals es (and_second (is_entry_node d) (are_entries es) h)) refl
+scope_vars ds h = (scope_quiet ds h).0
 
 pub scope_lexicals : (ds : Data) → only_entries ds ≡ true → lexicals_in ds ≡ []
-scope_lexicals none h = refl
-scope_lexicals (more (child t) ds) h = cc
-scope_lexicals (more (listed es) ds) h = rw (entries_lexicals es (and_first (are_entries es) (only_entries ds) h), scope_lexicals ds (and_second (are_entries es) (only_entries ds) h)) refl
-scope_lexicals (more _ ds) h = scope_lexicals ds h
+scope_lexicals ds h = (scope_quiet ds h).1
 
 pub scope_bound : (ds : Data) → only_entries ds ≡ true → bound ds ≡ []
 scope_bound none h = refl
@@ -193,7 +191,7 @@ pub not_true : (b : Bool) → not b ≡ true → b ≡ false
 not_true true h = cc
 not_true false h = refl
 
-not_false : (b : Bool) → not b ≡ false → b ≡ true
+pub not_false : (b : Bool) → not b ≡ false → b ≡ true
 not_false true h = refl
 not_false false h = cc
 
@@ -253,59 +251,6 @@ child_typed (field.Optional v) u f = and_second (allowed v (kind_of u)) (typed u
 child_typed (field.Lazy v) u f = and_second (allowed v (kind_of u)) (typed u) f
 child_typed _ u f = cc
 
-scope_clean : (t : FieldType) (d : Datum) → is_scope d ≡ true → fits t d ≡ true → clean_scope d ≡ true
-scope_clean t (child (branch k ds)) s f = scope_fits (fields k) ds (scope_types k s) (child_typed t (branch k ds) f)
-scope_clean t _ s f = refl
-
-field_clean : (t : FieldType) (d : Datum) (b : Bool) → is_scope d ≡ b → fits t d ≡ true → clean_at d ≡ true → (if b then clean_scope d else clean_at d) ≡ true
-field_clean t d true s f h = scope_clean t d s f
-field_clean t d false s f h = h
-
-mutual
-  pub typed_clean : (t : Tree) → typed t ≡ true → clean t ≡ true
-  typed_clean (branch k ds) f = fit_clean ds (fields k) f
-
-  pub fits_clean : (d : Datum) (t : FieldType) → fits t d ≡ true → clean_at d ≡ true
-  fits_clean (child u) t f = typed_clean u (child_typed t u f)
-  fits_clean (listed ds) (field.List u holes filled) f = items_clean ds u holes (and_second (not filled || not (is_none ds)) (items_fit u holes ds) f)
-  fits_clean (listed ds) _ f = cc
-  fits_clean _ t f = refl
-
-  pub fit_clean : (ds : Data) (ts : List FieldType) → fit ts ds ≡ true → clean_in ds ≡ true
-  fit_clean none ts f = refl
-  fit_clean (more d ds) [] f = cc
-  fit_clean (more d ds) (t ∷ ts) f = both (if is_scope d then clean_scope d else clean_at d) (clean_in ds)
-      (field_clean t d (is_scope d) refl (and_first (fits t d) (fit ts ds) f) (fits_clean d t (and_first (fits t d) (fit ts ds) f)))
-      (fit_clean ds ts (and_second (fits t d) (fit ts ds) f))
-
-  pub items_clean : (ds : Data) (u : Union) (holes : Bool) → items_fit u holes ds ≡ true → clean_in ds ≡ true
-  items_clean none u holes f = refl
-  items_clean (more d ds) u holes f = both (if is_scope d then clean_scope d else clean_at d) (clean_in ds)
-      (field_clean (item_type u holes) d (is_scope d) refl (and_first (fits (item_type u holes) d) (items_fit u holes ds) f) (fits_clean d (item_type u holes) (and_first (fits (item_type u holes) d) (items_fit u holes ds) f)))
-      (items_clean ds u holes (and_second (fits (item_type u holes) d) (items_fit u holes ds) f))
-
--- the scopes of an exact tree
-
-are_entered : (c : ℕ → Bool) → Entered (λ n. true) (λ es. are_entries (entries_by c es) ≡ true)
-are_entered c = record { nothing = refl; declared = λ a es n h. h; bound = λ n es q h. h; rest = λ n es q h. h; positional = λ i n es q h. h }
-
-flags_are : (b : Bool) (s : Shape) (simple : Bool) → only_entries (with_flag b (flags_by s simple)) ≡ true
-flags_are b shape.Parameters simple = refl
-flags_are b _ simple = refl
-
-exact_scope_clean : (e : Option ℕ) (names : List ℕ) (d : Datum) (after behind : Data) → clean_scope (flagged_scope e (filled_scope names d after) behind) ≡ true
-exact_scope_clean e names (child (branch k ds)) after behind = rw (all_entered (are_entered (λ x. crossed_in x behind)) (shape_of k) names after, flags_are (evals_in e behind) (shape_of k) (is_simple after)) refl
-exact_scope_clean e names _ after behind = refl
-
-exact_field_clean : (e : Option ℕ) (names : List ℕ) (d : Datum) (after behind : Data) (b : Bool) → is_scope d ≡ b → clean_at (flagged_at e (filled_at d)) ≡ true
-    → (if is_scope (if is_scope (if b then filled_scope names d after else filled_at d) then flagged_scope e (if b then filled_scope names d after else filled_at d) behind else flagged_at e (if b then filled_scope names d after else filled_at d))
-    then clean_scope (if is_scope (if b then filled_scope names d after else filled_at d) then flagged_scope e (if b then filled_scope names d after else filled_at d) behind else flagged_at e (if b then filled_scope names d after else filled_at d))
-    else clean_at (if is_scope (if b then filled_scope names d after else filled_at d) then flagged_scope e (if b then filled_scope names d after else filled_at d) behind else flagged_at e (if b then filled_scope names d after else filled_at d))) ≡ true
-exact_field_clean e names d after behind true s h =
-    rw (is_filled_scope names d after, s, is_flagged_scope e (filled_scope names d after) behind, is_filled_scope names d after, s) (exact_scope_clean e names d after behind)
-exact_field_clean e names d after behind false s h =
-    rw (is_filled d, s, is_flagged e (filled_at d), is_filled d, s) h
-
 -- no list of a well-typed tree has a scope as an item
 
 abbrev pub takes_scope : Union → Bool
@@ -323,15 +268,12 @@ pub plain_lists : (k : Kind) → all_plain_lists (fields k) ≡ true
 plain_lists Null = refl
 plain_lists _ = refl
 
-no_scope_kind : (u : Union) (k : Kind) → not (takes_scope u) ≡ true → allowed u k ≡ true → is_scope_part (part k) ≡ false
-no_scope_kind u k p a = none_of (λ j. is_scope_part (part j)) (kinds_in u) k a (not_true (takes_scope u) p)
-
 item_allowed : (u : Union) (holes : Bool) (t : Tree) → fits (item_type u holes) (child t) ≡ true → allowed u (kind_of t) ≡ true
 item_allowed u true t f = and_first (allowed u (kind_of t)) (typed t) f
 item_allowed u false t f = and_first (allowed u (kind_of t)) (typed t) f
 
-pub item_no_scope : (u : Union) (holes : Bool) (d : Datum) → not (takes_scope u) ≡ true → fits (item_type u holes) d ≡ true → is_scope d ≡ false
-item_no_scope u holes (child (branch k ds)) p f = no_scope_kind u k p (item_allowed u holes (branch k ds) f)
+item_no_scope : (u : Union) (holes : Bool) (d : Datum) → not (takes_scope u) ≡ true → fits (item_type u holes) d ≡ true → not (is_scope d) ≡ true
+item_no_scope u holes (child (branch k ds)) p f = rw (none_of (λ j. is_scope_part (part j)) (kinds_in u) k (item_allowed u holes (branch k ds) f) (not_true (takes_scope u) p)) refl
 item_no_scope u holes _ p f = refl
 
 -- an item is no list
@@ -339,26 +281,31 @@ pub item_plain : (u : Union) (holes : Bool) → is_plain_list (item_type u holes
 item_plain u true = refl
 item_plain u false = refl
 
-exact_item_clean : (e : Option ℕ) (d : Datum) → is_scope d ≡ false → clean_at (flagged_at e (filled_at d)) ≡ true → (if is_scope (flagged_at e (filled_at d)) then clean_scope (flagged_at e (filled_at d)) else clean_at (flagged_at e (filled_at d))) ≡ true
-exact_item_clean e d s h = rw (is_flagged e (filled_at d), is_filled d, s) h
+field_clean : (t : FieldType) (d : Datum) (b : Bool) → is_scope d ≡ b → fits t d ≡ true → clean_at d ≡ true → (if b then clean_scope d else clean_at d) ≡ true
+field_clean t (child (branch k ds)) true s f h = scope_fits (fields k) ds (scope_types k s) (child_typed t (branch k ds) f)
+field_clean t _ true s f h = refl
+field_clean t d false s f h = h
 
 mutual
-  pub exact_clean : (e : Option ℕ) (t : Tree) → typed t ≡ true → clean (flagged e (filled t)) ≡ true
-  exact_clean e (branch k ds) f = exact_clean_in e (bound ds) ds (fields k) (plain_lists k) f
+  pub typed_clean : (t : Tree) → typed t ≡ true → clean t ≡ true
+  typed_clean (branch k ds) f = fit_clean ds (fields k) (plain_lists k) f
 
-  pub exact_clean_at : (e : Option ℕ) (d : Datum) (t : FieldType) → is_plain_list t ≡ true → fits t d ≡ true → clean_at (flagged_at e (filled_at d)) ≡ true
-  exact_clean_at e (child u) t p f = exact_clean e u (child_typed t u f)
-  exact_clean_at e (listed ds) (field.List u holes filled) p f = exact_clean_among e ds u holes p (and_second (not filled || not (is_none ds)) (items_fit u holes ds) f)
-  exact_clean_at e (listed ds) _ p f = cc
-  exact_clean_at e _ t p f = refl
+  fits_clean : (d : Datum) (t : FieldType) → is_plain_list t ≡ true → fits t d ≡ true → clean_at d ≡ true
+  fits_clean (child u) t p f = typed_clean u (child_typed t u f)
+  fits_clean (listed ds) (field.List u holes filled) p f = items_clean ds u holes p (and_second (not filled || not (is_none ds)) (items_fit u holes ds) f)
+  fits_clean (listed ds) _ p f = cc
+  fits_clean _ t p f = refl
 
-  pub exact_clean_in : (e : Option ℕ) (names : List ℕ) (ds : Data) (ts : List FieldType) → all_plain_lists ts ≡ true → fit ts ds ≡ true → clean_in (flagged_in e (filled_in names ds)) ≡ true
-  exact_clean_in e names none ts p f = refl
-  exact_clean_in e names (more d ds) [] p f = cc
-  exact_clean_in e names (more d ds) (t ∷ ts) p f = rw (exact_field_clean e names d ds (filled_in names ds) (is_scope d) refl (exact_clean_at e d t (and_first (is_plain_list t) (all_plain_lists ts) p) (and_first (fits t d) (fit ts ds) f)))
-      (exact_clean_in e names ds ts (and_second (is_plain_list t) (all_plain_lists ts) p) (and_second (fits t d) (fit ts ds) f))
+  pub fit_clean : (ds : Data) (ts : List FieldType) → all_plain_lists ts ≡ true → fit ts ds ≡ true → clean_in ds ≡ true
+  fit_clean none ts p f = refl
+  fit_clean (more d ds) [] p f = cc
+  fit_clean (more d ds) (t ∷ ts) p f = both (if is_scope d then clean_scope d else clean_at d) (clean_in ds)
+      (field_clean t d (is_scope d) refl (and_first (fits t d) (fit ts ds) f) (fits_clean d t (and_first (is_plain_list t) (all_plain_lists ts) p) (and_first (fits t d) (fit ts ds) f)))
+      (fit_clean ds ts (and_second (is_plain_list t) (all_plain_lists ts) p) (and_second (fits t d) (fit ts ds) f))
 
-  pub exact_clean_among : (e : Option ℕ) (ds : Data) (u : Union) (holes : Bool) → not (takes_scope u) ≡ true → items_fit u holes ds ≡ true → clean_in (flagged_among e (filled_among ds)) ≡ true
-  exact_clean_among e none u holes p f = refl
-  exact_clean_among e (more d ds) u holes p f = rw (exact_item_clean e d (item_no_scope u holes d p (and_first (fits (item_type u holes) d) (items_fit u holes ds) f)) (exact_clean_at e d (item_type u holes) (item_plain u holes) (and_first (fits (item_type u holes) d) (items_fit u holes ds) f)))
-      (exact_clean_among e ds u holes p (and_second (fits (item_type u holes) d) (items_fit u holes ds) f))
+  items_clean : (ds : Data) (u : Union) (holes : Bool) → not (takes_scope u) ≡ true → items_fit u holes ds ≡ true → clean_among ds ≡ true
+  items_clean none u holes p f = refl
+  items_clean (more d ds) u holes p f =
+      let g : fits (item_type u holes) d ≡ true = and_first (fits (item_type u holes) d) (items_fit u holes ds) f
+      in both (not (is_scope d)) (clean_at d && clean_among ds) (item_no_scope u holes d p g)
+      (both (clean_at d) (clean_among ds) (fits_clean d (item_type u holes) (item_plain u holes) g) (items_clean ds u holes p (and_second (fits (item_type u holes) d) (items_fit u holes ds) f)))

@@ -16,8 +16,8 @@ use Rattle.bast_schema.specs.Tree.{Tree, branch, Datum, child, listed, flag, nam
 use Rattle.bast_schema.proofs.Both.{and_first, and_second}
 use Rattle.bast_schema.proofs.EachKind.{same_kind_true}
 use Rattle.scope_facts.proofs.Clean.{none_of, not_true, child_typed}
-use Rattle.scope_facts.proofs.NamesOfBare.{scope_form}
-use Rattle.scope_facts.proofs.FlaggedTyped.{size_same}
+use Rattle.scope_facts.proofs.LikeNames.{scope_form}
+use Rattle.scope_facts.proofs.Typed.{size_same}
 use Rattle.scope_facts.proofs.Sizes.{size_at_positive}
 use Rattle.scope_facts.specs.declared.names.Declared.{Declared}
 use Rattle.scope_facts.specs.declared.names.NameKind.{NameKind}

@@ -1,127 +1,80 @@
 -- Exact scopes name nothing that the tree does not name.
-use Rattle.std.proofs.Common.{ℕ, List, [], ◌∷◌, ◌++◌, ◌≡◌, Bool, true, false, refl, ap, ◌&&◌, ◌+◌, if◌then◌else◌, Option, ◌∙◌, option_to_list}
+use Rattle.std.proofs.Common.{arith, ℕ, List, [], ◌∷◌, ◌≡◌, ◌≤◌, ◌<◌, Bool, true, false, refl, ap, sym, ◌∙◌, ◌&&◌, ◌+◌, if◌then◌else◌, map, Option, option_to_list}
 use Rattle.std.specs.List.{list_all, list_any, slice_get}
-use Rattle.bast_schema.specs.Tree.{Tree, branch, Datum, child, absent, listed, flag, index, whole, name, no_name, choice, window, Data, none, more}
+use Rattle.bast_schema.specs.declared.kind.Kind.{Kind}
+use Rattle.bast_schema.specs.Counts.{size, size_at, size_in}
+use Rattle.bast_schema.specs.NamesHold.{names_hold, names_hold_at, names_hold_in}
+use Rattle.bast_schema.specs.Tree.{Tree, branch, Datum, child, listed, flag, name, Data, none, more, count}
 use Rattle.bast_schema.proofs.Both.{and_first, and_second, both}
 use Rattle.scope_facts.specs.declared.names.Declared.{Declared}
-use Rattle.scope_facts.specs.declared.names.NameKind.{NameKind}
-use Rattle.scope_facts.specs.declared.names.NameKind.TheVariants as kind
 use Rattle.scope_facts.specs.declared.roles.Form.{Form}
-use Rattle.scope_facts.specs.declared.roles.Form.TheVariants.{Binding, VarStatement, LexicalStatement, FunctionStatement, Head, Case, Parameters, Inside}
+use Rattle.scope_facts.specs.declared.roles.Form.TheVariants.{Parameters}
 use Rattle.scope_facts.specs.declared.roles.Shape.{Shape}
 use Rattle.scope_facts.specs.declared.roles.Shape.TheVariants as shape
 use Rattle.scope_facts.specs.Roles as roles
-use Rattle.scope_facts.specs.Roles.{shape_of}
-use Rattle.scope_facts.specs.Uses.{first_name}
-use Rattle.scope_facts.specs.Names.{with_kind, binding_name, bound_at, bound, bound_below_at, bound_below, declarators, lexical_kind, is_var_head, head_kind, vars_by, vars, vars_at, vars_in, lexicals_by, lexicals, lexicals_at, lexicals_in, tops_by, tops_at, tops_among, tops_in, same, once}
+use Rattle.scope_facts.specs.Roles.{part, is_scope_part, shape_of}
+use Rattle.scope_facts.specs.Uses.{is_scope, first_name, crossed_in, evals_in}
+use Rattle.scope_facts.specs.Names.{bound, bound_below_at, lexicals_in, tops_in, same, once}
 use Rattle.scope_facts.specs.Entries.{declared_entry, bound_entry, rest_entry, positional_entry, declared_entries, bound_entries, rest_entries, place_entry, item_entries, list_entries, parameter_entries_by, parameter_entries, entries, flags, flags_by, is_simple}
-use Rattle.scope_facts.specs.Filled.{filled}
 use Rattle.scope_facts.specs.Exact.{exact, eval_name}
-use Rattle.bast_schema.specs.NamesHold.{names_hold, names_hold_at, names_hold_in}
-use Rattle.scope_facts.proofs.Alike.{Alike, FilledScopes, filled_alike, flagged_alike, implied}
+use Rattle.scope_facts.specs.Filled.{filled_scope, filled, filled_at, filled_in, filled_among}
+use Rattle.scope_facts.specs.Flagged.{with_flag, holds_of, entry_by, entries_by, fields_by, flagged_scope, flagged, flagged_at, flagged_in, flagged_among}
+use Rattle.scope_facts.specs.Renamed.{renamed_at, renamed_in}
+use Rattle.scope_facts.proofs.Sizes.{count_le-size}
+use Rattle.scope_facts.proofs.Like.{Change, LikeAt, LikeIn, in_scope, in_node, in_list, a_name, a_flag, end, next, leaf_like}
+use Rattle.scope_facts.proofs.LikeNames.{Quiet, renamed_declared, bound_like, below_at_like, lexicals_like, tops_like}
+use Rattle.scope_facts.proofs.Maps.{any_names, any_names_in, renamed_like_at, renamed_like, renamed_quiet}
 
-all_append : {X : Type 0} (p : X → Bool) (xs ys : List X) → list_all p xs ≡ true → list_all p ys ≡ true → list_all p (xs ++ ys) ≡ true
-all_append p [] ys h g = g
-all_append p (x ∷ xs) ys h g = both (p x) (list_all p (xs ++ ys)) (and_first (p x) (list_all p xs) h) (all_append p xs ys (and_second (p x) (list_all p xs) h) g)
+-- A number that is changed where a property does not hold of it. A tree of which it holds stays the same, and so do the
+-- names that it declares: the property holds of them.
+abbrev moved : (ℕ → Bool) → ℕ → ℕ
+moved p n = if p n then n else n + 1
+
+stays : (b : Bool) (n : ℕ) → b ≡ true → (if b then n else n + 1) ≡ n
+stays true n h = refl
+stays false n h = cc
+
+stayed : (b : Bool) (n : ℕ) → (if b then n else n + 1) ≡ n → b ≡ true
+stayed true n h = refl
+stayed false n h = absurd (omega arith)
+
+mutual
+  at_stays : (p : ℕ → Bool) (d : Datum) → names_hold_at p d ≡ true → renamed_at (moved p) d ≡ d
+  at_stays p (child (branch k ds)) h = ap (λ es. child (branch k es)) (in_stays p ds h)
+  at_stays p (listed ds) h = ap listed (in_stays p ds h)
+  at_stays p (name n) h = ap name (stays (p n) n h)
+  at_stays p _ h = refl
+
+  in_stays : (p : ℕ → Bool) (ds : Data) → names_hold_in p ds ≡ true → renamed_in (moved p) ds ≡ ds
+  in_stays p none h = refl
+  in_stays p (more d ds) h = rw (at_stays p d (and_first (names_hold_at p d) (names_hold_in p ds) h), in_stays p ds (and_second (names_hold_at p d) (names_hold_in p ds) h)) refl
+
+all_stay : {X : Type 0} (q : X → Bool) (f : X → X) → ((x : X) → f x ≡ x → q x ≡ true) → (xs ys : List X) → xs ≡ ys → ys ≡ map f xs → list_all q xs ≡ true
+all_stay q f h [] ys e g = refl
+all_stay q f h (x ∷ xs) ys e g = let first : f x ≡ x = cc in let others : xs ≡ map f xs = cc in both (q x) (list_all q xs) (h x first) (all_stay q f h xs xs refl others)
+
+names_stay : (p : ℕ → Bool) (xs ys : List ℕ) → xs ≡ ys → ys ≡ map (moved p) xs → list_all p xs ≡ true
+names_stay p = all_stay p (moved p) (λ n. stayed (p n) n)
+
+declared_stay : (p : ℕ → Bool) (xs ys : List Declared) → xs ≡ ys → ys ≡ map (renamed_declared (moved p)) xs → list_all (λ a. p a.name) xs ≡ true
+declared_stay p = all_stay (λ a. p a.name) (renamed_declared (moved p)) (λ a h. stayed (p a.name) a.name (ap (λ b. b.name) h))
+
+bound_holds : (p : ℕ → Bool) (ds : Data) → names_hold_in p ds ≡ true → list_all p (bound ds) ≡ true
+bound_holds p ds h = names_stay p (bound ds) (bound (renamed_in (moved p) ds)) (ap bound (sym (in_stays p ds h))) (bound_like (renamed_like (moved p) p ds h))
+
+below_holds : (p : ℕ → Bool) (d : Datum) → names_hold_at p d ≡ true → list_all p (bound_below_at d) ≡ true
+below_holds p d h = names_stay p (bound_below_at d) (bound_below_at (renamed_at (moved p) d)) (ap bound_below_at (sym (at_stays p d h))) (below_at_like (renamed_quiet (moved p) p) (renamed_like_at (moved p) p d h))
+
+lexicals_hold : (p : ℕ → Bool) (ds : Data) → names_hold_in p ds ≡ true → list_all (λ a. p a.name) (lexicals_in ds) ≡ true
+lexicals_hold p ds h = declared_stay p (lexicals_in ds) (lexicals_in (renamed_in (moved p) ds)) (ap lexicals_in (sym (in_stays p ds h))) (lexicals_like (renamed_quiet (moved p) p) (renamed_like (moved p) p ds h))
+
+tops_hold : (p : ℕ → Bool) (ds : Data) → names_hold_in p ds ≡ true → list_all (λ a. p a.name) (tops_in ds) ≡ true
+tops_hold p ds h = declared_stay p (tops_in ds) (tops_in (renamed_in (moved p) ds)) (ap tops_in (sym (in_stays p ds h))) (tops_like (renamed_quiet (moved p) p) (renamed_like (moved p) p ds h))
 
 pub first_holds : (p : ℕ → Bool) (ds : Data) → names_hold_in p ds ≡ true → list_all p (option_to_list (first_name ds)) ≡ true
 first_holds p none h = refl
 first_holds p (more (name n) ds) h = both (p n) true (and_first (p n) (names_hold_in p ds) h) refl
 first_holds p (more d ds) h = first_holds p ds (and_second (names_hold_at p d) (names_hold_in p ds) h)
-
-binding_holds : (p : ℕ → Bool) (f : Form) (ds : Data) → names_hold_in p ds ≡ true → list_all p (option_to_list (binding_name f ds)) ≡ true
-binding_holds p Binding ds h = first_holds p ds h
-binding_holds p _ ds h = refl
-
-bound_at_holds : (p : ℕ → Bool) (d : Datum) → names_hold_at p d ≡ true → list_all p (option_to_list (bound_at d)) ≡ true
-bound_at_holds p (child (branch k ds)) h = binding_holds p (roles.form k) ds h
-bound_at_holds p _ h = refl
-
-bound_holds : (p : ℕ → Bool) (ds : Data) → names_hold_in p ds ≡ true → list_all p (bound ds) ≡ true
-bound_holds p none h = refl
-bound_holds p (more d ds) h = all_append p (option_to_list (bound_at d)) (bound ds) (bound_at_holds p d (and_first (names_hold_at p d) (names_hold_in p ds) h)) (bound_holds p ds (and_second (names_hold_at p d) (names_hold_in p ds) h))
-
-below_at_holds : (p : ℕ → Bool) (d : Datum) → names_hold_at p d ≡ true → list_all p (bound_below_at d) ≡ true
-below_at_holds p (child (branch k ds)) h = all_append p (option_to_list (binding_name (roles.form k) ds)) (bound ds) (binding_holds p (roles.form k) ds h) (bound_holds p ds h)
-below_at_holds p _ h = refl
-
-below_holds : (p : ℕ → Bool) (ds : Data) → names_hold_in p ds ≡ true → list_all p (bound_below ds) ≡ true
-below_holds p none h = refl
-below_holds p (more d ds) h = all_append p (bound_below_at d) (bound_below ds) (below_at_holds p d (and_first (names_hold_at p d) (names_hold_in p ds) h)) (below_holds p ds (and_second (names_hold_at p d) (names_hold_in p ds) h))
-
-declarators_hold : (p : ℕ → Bool) (ds : Data) → names_hold_in p ds ≡ true → list_all p (declarators ds) ≡ true
-declarators_hold p none h = refl
-declarators_hold p (more (listed es) ds) h = below_holds p es (and_first (names_hold_in p es) (names_hold_in p ds) h)
-declarators_hold p (more d ds) h = declarators_hold p ds (and_second (names_hold_at p d) (names_hold_in p ds) h)
-
-head_holds : (p : ℕ → Bool) (b : Bool) (xs : List ℕ) → list_all p xs ≡ true → list_all p (if b then xs else []) ≡ true
-head_holds p true xs h = h
-head_holds p false xs h = refl
-
-vars_by_hold : (p : ℕ → Bool) (f : Form) (ds : Data) (inner : List ℕ) → names_hold_in p ds ≡ true → list_all p inner ≡ true → list_all p (vars_by f ds inner) ≡ true
-vars_by_hold p VarStatement ds inner h g = declarators_hold p ds h
-vars_by_hold p Head ds inner h g = head_holds p (is_var_head ds) (bound ds) (bound_holds p ds h)
-vars_by_hold p Inside ds inner h g = refl
-vars_by_hold p _ ds inner h g = g
-
-mutual
-  vars_hold : (p : ℕ → Bool) (t : Tree) → names_hold p t ≡ true → list_all p (vars t) ≡ true
-  vars_hold p (branch k ds) h = vars_by_hold p (roles.form k) ds (vars_in ds) h (vars_hold_in p ds h)
-
-  vars_hold_at : (p : ℕ → Bool) (d : Datum) → names_hold_at p d ≡ true → list_all p (vars_at d) ≡ true
-  vars_hold_at p (child t) h = vars_hold p t h
-  vars_hold_at p (listed ds) h = vars_hold_in p ds h
-  vars_hold_at p _ h = refl
-
-  vars_hold_in : (p : ℕ → Bool) (ds : Data) → names_hold_in p ds ≡ true → list_all p (vars_in ds) ≡ true
-  vars_hold_in p none h = refl
-  vars_hold_in p (more d ds) h = all_append p (vars_at d) (vars_in ds) (vars_hold_at p d (and_first (names_hold_at p d) (names_hold_in p ds) h)) (vars_hold_in p ds (and_second (names_hold_at p d) (names_hold_in p ds) h))
-
-kind_holds : (p : ℕ → Bool) (k : NameKind) (xs : List ℕ) → list_all p xs ≡ true → list_all (λ a. p a.name) (with_kind k xs) ≡ true
-kind_holds p k [] h = refl
-kind_holds p k (x ∷ xs) h = both (p x) (list_all (λ a. p a.name) (with_kind k xs)) (and_first (p x) (list_all p xs) h) (kind_holds p k xs (and_second (p x) (list_all p xs) h))
-
-no_var_holds : (p : ℕ → Bool) (b : Bool) (xs : List Declared) → list_all (λ a. p a.name) xs ≡ true → list_all (λ a. p a.name) (if b then [] else xs) ≡ true
-no_var_holds p true xs h = refl
-no_var_holds p false xs h = h
-
-lexicals_by_hold : (p : ℕ → Bool) (f : Form) (ds : Data) (inner : List Declared) → names_hold_in p ds ≡ true → list_all (λ a. p a.name) inner ≡ true → list_all (λ a. p a.name) (lexicals_by f ds inner) ≡ true
-lexicals_by_hold p LexicalStatement ds inner h g = kind_holds p (lexical_kind ds) (declarators ds) (declarators_hold p ds h)
-lexicals_by_hold p FunctionStatement ds inner h g = kind_holds p kind.Lexical (bound ds) (bound_holds p ds h)
-lexicals_by_hold p Head ds inner h g = no_var_holds p (is_var_head ds) (with_kind (head_kind ds) (bound ds)) (kind_holds p (head_kind ds) (bound ds) (bound_holds p ds h))
-lexicals_by_hold p Case ds inner h g = g
-lexicals_by_hold p _ ds inner h g = refl
-
-mutual
-  lexicals_hold : (p : ℕ → Bool) (t : Tree) → names_hold p t ≡ true → list_all (λ a. p a.name) (lexicals t) ≡ true
-  lexicals_hold p (branch k ds) h = lexicals_by_hold p (roles.form k) ds (lexicals_in ds) h (lexicals_hold_in p ds h)
-
-  lexicals_hold_at : (p : ℕ → Bool) (d : Datum) → names_hold_at p d ≡ true → list_all (λ a. p a.name) (lexicals_at d) ≡ true
-  lexicals_hold_at p (child t) h = lexicals_hold p t h
-  lexicals_hold_at p (listed ds) h = lexicals_hold_in p ds h
-  lexicals_hold_at p _ h = refl
-
-  lexicals_hold_in : (p : ℕ → Bool) (ds : Data) → names_hold_in p ds ≡ true → list_all (λ a. p a.name) (lexicals_in ds) ≡ true
-  lexicals_hold_in p none h = refl
-  lexicals_hold_in p (more d ds) h = all_append (λ (a : Declared). p a.name) (lexicals_at d) (lexicals_in ds) (lexicals_hold_at p d (and_first (names_hold_at p d) (names_hold_in p ds) h)) (lexicals_hold_in p ds (and_second (names_hold_at p d) (names_hold_in p ds) h))
-
-tops_by_hold : (p : ℕ → Bool) (f : Form) (ds : Data) (inner : List ℕ) → names_hold_in p ds ≡ true → list_all p inner ≡ true → list_all (λ a. p a.name) (tops_by f ds inner) ≡ true
-tops_by_hold p LexicalStatement ds inner h g = kind_holds p (lexical_kind ds) (declarators ds) (declarators_hold p ds h)
-tops_by_hold p FunctionStatement ds inner h g = kind_holds p kind.Var (bound ds) (bound_holds p ds h)
-tops_by_hold p _ ds inner h g = kind_holds p kind.Var inner g
-
-tops_at_hold : (p : ℕ → Bool) (d : Datum) → names_hold_at p d ≡ true → list_all (λ a. p a.name) (tops_at d) ≡ true
-tops_at_hold p (child (branch k ds)) h = tops_by_hold p (roles.form k) ds (vars_by (roles.form k) ds (vars_in ds)) h (vars_by_hold p (roles.form k) ds (vars_in ds) h (vars_hold_in p ds h))
-tops_at_hold p _ h = refl
-
-tops_among_hold : (p : ℕ → Bool) (ds : Data) → names_hold_in p ds ≡ true → list_all (λ a. p a.name) (tops_among ds) ≡ true
-tops_among_hold p none h = refl
-tops_among_hold p (more d ds) h = all_append (λ (a : Declared). p a.name) (tops_at d) (tops_among ds) (tops_at_hold p d (and_first (names_hold_at p d) (names_hold_in p ds) h)) (tops_among_hold p ds (and_second (names_hold_at p d) (names_hold_in p ds) h))
-
-tops_in_hold : (p : ℕ → Bool) (ds : Data) → names_hold_in p ds ≡ true → list_all (λ a. p a.name) (tops_in ds) ≡ true
-tops_in_hold p none h = refl
-tops_in_hold p (more (listed es) ds) h = tops_among_hold p es (and_first (names_hold_in p es) (names_hold_in p ds) h)
-tops_in_hold p (more d ds) h = tops_in_hold p ds (and_second (names_hold_at p d) (names_hold_in p ds) h)
 
 once_step : (q : Declared → Bool) (b : Bool) (a : Declared) (xs ys : List Declared) → q a ≡ true → list_all q xs ≡ true → list_all q ys ≡ true → list_all q (if b then xs else a ∷ ys) ≡ true
 once_step q true a xs ys h g f = g
@@ -131,121 +84,252 @@ once_holds : (q : Declared → Bool) (xs seen : List Declared) → list_all q xs
 once_holds q [] seen h = refl
 once_holds q (a ∷ xs) seen h = once_step q (list_any (same a) seen) a (once seen xs) (once (a ∷ seen) xs) (and_first (q a) (list_all q xs) h) (once_holds q xs seen (and_second (q a) (list_all q xs) h)) (once_holds q xs (a ∷ seen) (and_second (q a) (list_all q xs) h))
 
--- entries
+-- what may be said of the entries of scopes of each shape, to which entries of these names may be added one after the other,
+-- those of parameters with places below a number
+pub record Entered (n : ℕ) (q : ℕ → Bool) (P : Shape → Data → Type 0) : Type 0 where
+  pub nothing : (s : Shape) → P s none
+  pub statement : (a : Declared) (es : Data) → q a.name ≡ true → P shape.Statements es → P shape.Statements (more (child (declared_entry a)) es)
+  pub lexical : (a : Declared) (es : Data) → q a.name ≡ true → P shape.Lexical es → P shape.Lexical (more (child (declared_entry a)) es)
+  pub bound : (m : ℕ) (es : Data) → q m ≡ true → P shape.BoundName es → P shape.BoundName (more (child (bound_entry m)) es)
+  pub rest : (m : ℕ) (es : Data) → q m ≡ true → P shape.Parameters es → P shape.Parameters (more (child (rest_entry m)) es)
+  pub positional : (i m : ℕ) (es : Data) → i < n → q m ≡ true → P shape.Parameters es → P shape.Parameters (more (child (positional_entry i m)) es)
 
--- values to which entries of these names may be added one after the other
-pub record Entered (q : ℕ → Bool) (P : Data → Type 0) : Type 0 where
-  pub nothing : P none
-  pub declared : (a : Declared) (es : Data) → q a.name ≡ true → P es → P (more (child (declared_entry a)) es)
-  pub bound : (n : ℕ) (es : Data) → q n ≡ true → P es → P (more (child (bound_entry n)) es)
-  pub rest : (n : ℕ) (es : Data) → q n ≡ true → P es → P (more (child (rest_entry n)) es)
-  pub positional : (i n : ℕ) (es : Data) → q n ≡ true → P es → P (more (child (positional_entry i n)) es)
+declared_entered : {P : Data → Type 0} (q : ℕ → Bool) → P none → ((a : Declared) (es : Data) → q a.name ≡ true → P es → P (more (child (declared_entry a)) es)) → (xs : List Declared) → list_all (λ a. q a.name) xs ≡ true → P (declared_entries xs)
+declared_entered q z c [] h = z
+declared_entered q z c (a ∷ xs) h = c a (declared_entries xs) (and_first (q a.name) (list_all (λ b. q b.name) xs) h) (declared_entered q z c xs (and_second (q a.name) (list_all (λ b. q b.name) xs) h))
 
-declared_entered : {q : ℕ → Bool} {P : Data → Type 0} → Entered q P → (xs : List Declared) → list_all (λ a. q a.name) xs ≡ true → P (declared_entries xs)
-declared_entered c [] h = c.nothing
-declared_entered {q} c (a ∷ xs) h = c.declared a (declared_entries xs) (and_first (q a.name) (list_all (λ b. q b.name) xs) h) (declared_entered c xs (and_second (q a.name) (list_all (λ b. q b.name) xs) h))
+bound_entered : {n : ℕ} {q : ℕ → Bool} {P : Shape → Data → Type 0} → Entered n q P → (xs : List ℕ) → list_all q xs ≡ true → P shape.BoundName (bound_entries xs)
+bound_entered c [] h = c.nothing shape.BoundName
+bound_entered {q = q} c (m ∷ xs) h = c.bound m (bound_entries xs) (and_first (q m) (list_all q xs) h) (bound_entered c xs (and_second (q m) (list_all q xs) h))
 
-bound_entered : {q : ℕ → Bool} {P : Data → Type 0} → Entered q P → (xs : List ℕ) → list_all q xs ≡ true → P (bound_entries xs)
-bound_entered c [] h = c.nothing
-bound_entered {q} c (n ∷ xs) h = c.bound n (bound_entries xs) (and_first (q n) (list_all q xs) h) (bound_entered c xs (and_second (q n) (list_all q xs) h))
+rest_entered : {n : ℕ} {q : ℕ → Bool} {P : Shape → Data → Type 0} → Entered n q P → (xs : List ℕ) → list_all q xs ≡ true → P shape.Parameters (rest_entries xs)
+rest_entered c [] h = c.nothing shape.Parameters
+rest_entered {q = q} c (m ∷ xs) h = c.rest m (rest_entries xs) (and_first (q m) (list_all q xs) h) (rest_entered c xs (and_second (q m) (list_all q xs) h))
 
-rest_entered : {q : ℕ → Bool} {P : Data → Type 0} → Entered q P → (xs : List ℕ) → list_all q xs ≡ true → P (rest_entries xs)
-rest_entered c [] h = c.nothing
-rest_entered {q} c (n ∷ xs) h = c.rest n (rest_entries xs) (and_first (q n) (list_all q xs) h) (rest_entered c xs (and_second (q n) (list_all q xs) h))
+place_entered : {n : ℕ} {q : ℕ → Bool} {P : Shape → Data → Type 0} → Entered n q P → (i : ℕ) (xs : List ℕ) (others : Data) → i < n → list_all q xs ≡ true → P shape.Parameters others → P shape.Parameters (place_entry i (slice_get xs 0) others)
+place_entered c i [] others l h g = g
+place_entered {q = q} c i (m ∷ xs) others l h g = c.positional i m others l (and_first (q m) (list_all q xs) h) g
 
-place_entered : {q : ℕ → Bool} {P : Data → Type 0} → Entered q P → (i : ℕ) (xs : List ℕ) (others : Data) → list_all q xs ≡ true → P others → P (place_entry i (slice_get xs 0) others)
-place_entered c i [] others h g = g
-place_entered {q} c i (n ∷ xs) others h g = c.positional i n others (and_first (q n) (list_all q xs) h) g
+items_entered : {n : ℕ} {q : ℕ → Bool} {P : Shape → Data → Type 0} → Entered n q P → (i : ℕ) (items others : Data) → i + count items ≤ n → names_hold_in q items ≡ true → P shape.Parameters others → P shape.Parameters (item_entries i items others)
+items_entered c i none others l h g = g
+items_entered {q = q} c i (more d items) others l h g = place_entered c i (bound_below_at d) (item_entries (i + 1) items others) (omega arith)
+    (below_holds q d (and_first (names_hold_at q d) (names_hold_in q items) h)) (items_entered c (i + 1) items others (omega arith) (and_second (names_hold_at q d) (names_hold_in q items) h) g)
 
-items_entered : {q : ℕ → Bool} {P : Data → Type 0} → Entered q P → (i : ℕ) (items others : Data) → names_hold_in q items ≡ true → P others → P (item_entries i items others)
-items_entered c i none others h g = g
-items_entered {q} c i (more d items) others h g = place_entered c i (bound_below_at d) (item_entries (i + 1) items others)
-    (below_at_holds q d (and_first (names_hold_at q d) (names_hold_in q items) h)) (items_entered c (i + 1) items others (and_second (names_hold_at q d) (names_hold_in q items) h) g)
-
-list_entered : {q : ℕ → Bool} {P : Data → Type 0} → Entered q P → (fs : Data) → names_hold_in q fs ≡ true → P (list_entries fs)
-list_entered c none h = c.nothing
-list_entered {q} c (more (listed items) rest) h = items_entered c 0 items (rest_entries (bound rest)) (and_first (names_hold_in q items) (names_hold_in q rest) h)
+list_entered : {n : ℕ} {q : ℕ → Bool} {P : Shape → Data → Type 0} → Entered n q P → (fs : Data) → size_in fs ≤ n → names_hold_in q fs ≡ true → P shape.Parameters (list_entries fs)
+list_entered c none l h = c.nothing shape.Parameters
+list_entered {q = q} c (more (listed items) rest) l h = items_entered c 0 items (rest_entries (bound rest)) (omega (arith, count_le-size items)) (and_first (names_hold_in q items) (names_hold_in q rest) h)
     (rest_entered c (bound rest) (bound_holds q rest (and_second (names_hold_in q items) (names_hold_in q rest) h)))
-list_entered c (more _ rest) h = c.nothing
+list_entered c (more _ rest) l h = c.nothing shape.Parameters
 
-by_entered : {q : ℕ → Bool} {P : Data → Type 0} → Entered q P → (f : Form) (fs : Data) (d : Datum) → names_hold_in q fs ≡ true → names_hold_at q d ≡ true → P (parameter_entries_by f fs d)
-by_entered c Parameters fs d h g = list_entered c fs h
-by_entered {q} c _ fs d h g = place_entered c 0 (bound_below_at d) none (below_at_holds q d g) c.nothing
+by_entered : {n : ℕ} {q : ℕ → Bool} {P : Shape → Data → Type 0} → Entered n q P → (f : Form) (fs : Data) (d : Datum) → 1 + size_in fs ≤ n → names_hold_in q fs ≡ true → names_hold_at q d ≡ true → P shape.Parameters (parameter_entries_by f fs d)
+by_entered c Parameters fs d l h g = list_entered c fs (omega arith) h
+by_entered {q = q} c _ fs d l h g = place_entered c 0 (bound_below_at d) none (omega arith) (below_holds q d g) (c.nothing shape.Parameters)
 
-parameters_entered : {q : ℕ → Bool} {P : Data → Type 0} → Entered q P → (after : Data) → names_hold_in q after ≡ true → P (parameter_entries after)
-parameters_entered c none h = c.nothing
-parameters_entered {q} c (more (child (branch k fs)) ds) h = by_entered c (roles.form k) fs (child (branch k fs)) (and_first (names_hold_in q fs) (names_hold_in q ds) h) (and_first (names_hold_in q fs) (names_hold_in q ds) h)
-parameters_entered c (more _ ds) h = c.nothing
+parameters_entered : {n : ℕ} {q : ℕ → Bool} {P : Shape → Data → Type 0} → Entered n q P → (after : Data) → size_in after ≤ n → names_hold_in q after ≡ true → P shape.Parameters (parameter_entries after)
+parameters_entered c none l h = c.nothing shape.Parameters
+parameters_entered {q = q} c (more (child (branch k fs)) ds) l h = let g : names_hold_in q fs ≡ true = and_first (names_hold_in q fs) (names_hold_in q ds) h in by_entered c (roles.form k) fs (child (branch k fs)) (omega arith) g g
+parameters_entered c (more _ ds) l h = c.nothing shape.Parameters
 
-pub entries_entered : {q : ℕ → Bool} {P : Data → Type 0} → Entered q P → (s : Shape) (names : List ℕ) (after : Data) → list_all q names ≡ true → names_hold_in q after ≡ true → P (entries s names after)
-entries_entered {q} c shape.Statements names after n h = declared_entered c (once [] (tops_in after)) (once_holds (λ a. q a.name) (tops_in after) [] (tops_in_hold q after h))
-entries_entered {q} c shape.Lexical names after n h = declared_entered c (once [] (lexicals_in after)) (once_holds (λ a. q a.name) (lexicals_in after) [] (lexicals_hold_in q after h))
-entries_entered c shape.Parameters names after n h = parameters_entered c after h
-entries_entered c shape.BoundName names after n h = bound_entered c names n
-entries_entered c shape.Nothing names after n h = c.nothing
+-- what each entry keeps holds of the entries of each scope
+pub entries_entered : {n : ℕ} {q : ℕ → Bool} {P : Shape → Data → Type 0} → Entered n q P → (s : Shape) (names : List ℕ) (after : Data) → size_in after ≤ n → list_all q names ≡ true → names_hold_in q after ≡ true → P s (entries s names after)
+entries_entered {q = q} c shape.Statements names after l n h = declared_entered q (c.nothing shape.Statements) c.statement (once [] (tops_in after)) (once_holds (λ a. q a.name) (tops_in after) [] (tops_hold q after h))
+entries_entered {q = q} c shape.Lexical names after l n h = declared_entered q (c.nothing shape.Lexical) c.lexical (once [] (lexicals_in after)) (once_holds (λ a. q a.name) (lexicals_in after) [] (lexicals_hold q after h))
+entries_entered c shape.Parameters names after l n h = parameters_entered c after l h
+entries_entered c shape.BoundName names after l n h = bound_entered c names n
+entries_entered c shape.Nothing names after l n h = c.nothing shape.Nothing
 
 -- where any name will do
-
-mutual
-  any_names : (t : Tree) → names_hold (λ n. true) t ≡ true
-  any_names (branch k ds) = any_names_in ds
-
-  any_names_at : (d : Datum) → names_hold_at (λ n. true) d ≡ true
-  any_names_at (child t) = any_names t
-  any_names_at (listed ds) = any_names_in ds
-  any_names_at _ = refl
-
-  any_names_in : (ds : Data) → names_hold_in (λ n. true) ds ≡ true
-  any_names_in none = refl
-  any_names_in (more d ds) = both (names_hold_at (λ n. true) d) (names_hold_in (λ n. true) ds) (any_names_at d) (any_names_in ds)
 
 any_list : (ns : List ℕ) → list_all (λ n. true) ns ≡ true
 any_list [] = refl
 any_list (n ∷ ns) = any_list ns
 
--- what each entry of a scope keeps holds of the entries of each scope
-pub all_entered : {P : Data → Type 0} → Entered (λ n. true) P → (s : Shape) (names : List ℕ) (after : Data) → P (entries s names after)
-all_entered c s names after = entries_entered c s names after (any_list names) (any_names_in after)
+pub le_self : (n : ℕ) → n ≤ n
+le_self n = omega arith
+
+pub all_entered : {P : Shape → Data → Type 0} (after : Data) → Entered (size_in after) (λ n. true) P → (s : Shape) (names : List ℕ) → P s (entries s names after)
+all_entered after c s names = entries_entered c s names after (le_self (size_in after)) (any_list names) (any_names_in after)
+
+
+-- filled: the scopes get entries of names with a property, from values that are not too many
+
+pub record Filled (n : ℕ) (p : ℕ → Bool) (k : Kind) (ds es : Data) : Type 0 where
+  pub names : List ℕ
+  pub behind : Data
+  pub small : size_in behind ≤ n
+  pub named : list_all p names ≡ true
+  pub held : names_hold_in p behind ≡ true
+  pub is : es ≡ more (listed (entries (shape_of k) names behind)) (flags (shape_of k) behind)
+
+abbrev pub filling : ℕ → (ℕ → Bool) → Change
+filling n p = record { eagerly = false; holds = p; number = λ m. m; scopes = Filled n p; flags = λ b c. b ≡ c }
+
+filled_field : (n : ℕ) (p : ℕ → Bool) (ns : List ℕ) (d : Datum) (ds : Data) (b : Bool) → is_scope d ≡ b → size_in ds ≤ n → list_all p ns ≡ true → names_hold_in p ds ≡ true
+    → LikeAt (filling n p) d (filled_at d) → LikeAt (filling n p) d (if b then filled_scope ns d ds else filled_at d)
+filled_field n p ns (child (branch k fs)) ds true i l a h f = in_scope k fs (more (listed (entries (shape_of k) ns ds)) (flags (shape_of k) ds)) i (record { names = ns; behind = ds; small = l; named = a; held = h; is = refl })
+filled_field n p ns _ ds true i l a h f = cc
+filled_field n p ns d ds false i l a h f = f
+
+mutual
+  filled_like_at : (n : ℕ) (p : ℕ → Bool) (d : Datum) → size_at d ≤ n → names_hold_at p d ≡ true → LikeAt (filling n p) d (filled_at d)
+  filled_like_at n p (child (branch k ds)) l h = in_node k ds (filled_in (bound ds) ds) (filled_like n p (bound ds) ds (omega arith) (bound_holds p ds h) h)
+  filled_like_at n p (listed ds) l h = in_list ds (filled_among ds) (filled_like_among n p ds (omega arith) h)
+  filled_like_at n p (name m) l h = a_name m h
+  filled_like_at n p (flag b) l h = a_flag b b refl
+  filled_like_at n p d l h = leaf_like d refl
+
+  filled_like : (n : ℕ) (p : ℕ → Bool) (ns : List ℕ) (ds : Data) → size_in ds ≤ n → list_all p ns ≡ true → names_hold_in p ds ≡ true → LikeIn (filling n p) ds (filled_in ns ds)
+  filled_like n p ns none l a h = end
+  filled_like n p ns (more d ds) l a h = next d (if is_scope d then filled_scope ns d ds else filled_at d) ds (filled_in ns ds)
+      (filled_field n p ns d ds (is_scope d) refl (omega arith) a (and_second (names_hold_at p d) (names_hold_in p ds) h) (filled_like_at n p d (omega arith) (and_first (names_hold_at p d) (names_hold_in p ds) h)))
+      (filled_like n p ns ds (omega arith) a (and_second (names_hold_at p d) (names_hold_in p ds) h))
+
+  filled_like_among : (n : ℕ) (p : ℕ → Bool) (ds : Data) → size_in ds ≤ n → names_hold_in p ds ≡ true → LikeIn (filling n p) ds (filled_among ds)
+  filled_like_among n p none l h = end
+  filled_like_among n p (more d ds) l h = next d (filled_at d) ds (filled_among ds)
+      (filled_like_at n p d (omega arith) (and_first (names_hold_at p d) (names_hold_in p ds) h)) (filled_like_among n p ds (omega arith) (and_second (names_hold_at p d) (names_hold_in p ds) h))
+
+pub any_filled_in : (ns : List ℕ) (ds : Data) (n : ℕ) → size_in ds ≤ n → LikeIn (filling n (λ m. true)) ds (filled_in ns ds)
+any_filled_in ns ds n l = filled_like n (λ m. true) ns ds l (any_list ns) (any_names_in ds)
+
+pub any_filled : (t : Tree) → LikeAt (filling (size t) (λ n. true)) (child t) (child (filled t))
+any_filled t = filled_like_at (size t) (λ n. true) (child t) (le_self (size t)) (any_names t)
+
+-- flagged: the fields of scopes that change as a whole, or flags alone that change anywhere
+
+abbrev pub flagging : (Kind → Data → Data → Type 0) → (Bool → Bool → Type 0) → Change
+flagging s f = record { eagerly = false; holds = λ n. true; number = λ n. n; scopes = s; flags = f }
+
+abbrev pub flags_alone : Change
+flags_alone = flagging (λ k ds es. ⊥) (λ b c. Unit)
+
+-- what is said of each scope with its flags set
+abbrev pub FlaggedScopes : Change → Type 0
+FlaggedScopes m = (k : Kind) (ds : Data) (c : ℕ → Bool) (b : Bool) → is_scope_part (part k) ≡ true → LikeAt m (child (branch k ds)) (child (branch k (fields_by c b ds)))
+
+mutual
+  self_at : (d : Datum) → LikeAt flags_alone d d
+  self_at (child (branch k ds)) = in_node k ds ds (self_in ds)
+  self_at (listed ds) = in_list ds ds (self_in ds)
+  self_at (name n) = a_name n refl
+  self_at (flag b) = a_flag b b tt
+  self_at d = leaf_like d refl
+
+  self_in : (ds : Data) → LikeIn flags_alone ds ds
+  self_in none = end
+  self_in (more d ds) = next d d ds ds (self_at d) (self_in ds)
+
+pub with_flag_like : (b : Bool) (ds : Data) → LikeIn flags_alone ds (with_flag b ds)
+with_flag_like b none = end
+with_flag_like b (more (flag c) ds) = next (flag c) (flag b) ds ds (a_flag c b tt) (self_in ds)
+with_flag_like b (more d ds) = next d d ds (with_flag b ds) (self_at d) (with_flag_like b ds)
+
+entry_like : (c : ℕ → Bool) (d : Datum) → LikeAt flags_alone d (entry_by c d)
+entry_like c (child (branch k ds)) = in_node k ds (with_flag (holds_of c (first_name ds)) ds) (with_flag_like (holds_of c (first_name ds)) ds)
+entry_like c d = self_at d
+
+entries_by_like : (c : ℕ → Bool) (es : Data) → LikeIn flags_alone es (entries_by c es)
+entries_by_like c none = end
+entries_by_like c (more d es) = next d (entry_by c d) es (entries_by c es) (entry_like c d) (entries_by_like c es)
+
+pub fields_by_like : (c : ℕ → Bool) (b : Bool) (ds : Data) → LikeIn flags_alone ds (fields_by c b ds)
+fields_by_like c b (more (listed es) ds) = next (listed es) (listed (entries_by c es)) ds (with_flag b ds) (in_list es (entries_by c es) (entries_by_like c es)) (with_flag_like b ds)
+fields_by_like c b ds = self_in ds
+
+flagged_field : {m : Change} (e : Option ℕ) (d : Datum) (ds : Data) (b : Bool) → FlaggedScopes m → is_scope d ≡ b → LikeAt m d (flagged_at e d) → LikeAt m d (if b then flagged_scope e d ds else flagged_at e d)
+flagged_field e (child (branch k fs)) ds true s i h = s k fs (λ x. crossed_in x ds) (evals_in e ds) i
+flagged_field e _ ds true s i h = cc
+flagged_field e d ds false s i h = h
+
+mutual
+  flagged_like_at : (s : Kind → Data → Data → Type 0) (f : Bool → Bool → Type 0) → FlaggedScopes (flagging s f) → ((b : Bool) → f b b) → (e : Option ℕ) (d : Datum) → LikeAt (flagging s f) d (flagged_at e d)
+  flagged_like_at s f w g e (child (branch k ds)) = in_node k ds (flagged_in e ds) (flagged_like s f w g e ds)
+  flagged_like_at s f w g e (listed ds) = in_list ds (flagged_among e ds) (flagged_like_among s f w g e ds)
+  flagged_like_at s f w g e (name n) = a_name n refl
+  flagged_like_at s f w g e (flag b) = a_flag b b (g b)
+  flagged_like_at s f w g e d = leaf_like d refl
+
+  pub flagged_like : (s : Kind → Data → Data → Type 0) (f : Bool → Bool → Type 0) → FlaggedScopes (flagging s f) → ((b : Bool) → f b b) → (e : Option ℕ) (ds : Data) → LikeIn (flagging s f) ds (flagged_in e ds)
+  flagged_like s f w g e none = end
+  flagged_like s f w g e (more d ds) = next d (if is_scope d then flagged_scope e d ds else flagged_at e d) ds (flagged_in e ds) (flagged_field e d ds (is_scope d) w refl (flagged_like_at s f w g e d)) (flagged_like s f w g e ds)
+
+  flagged_like_among : (s : Kind → Data → Data → Type 0) (f : Bool → Bool → Type 0) → FlaggedScopes (flagging s f) → ((b : Bool) → f b b) → (e : Option ℕ) (ds : Data) → LikeIn (flagging s f) ds (flagged_among e ds)
+  flagged_like_among s f w g e none = end
+  flagged_like_among s f w g e (more d ds) = next d (flagged_at e d) ds (flagged_among e ds) (flagged_like_at s f w g e d) (flagged_like_among s f w g e ds)
+
+pub only_flags : (e : Option ℕ) (ds : Data) → LikeIn flags_alone ds (flagged_in e ds)
+only_flags = flagged_like (λ k ds es. ⊥) (λ b c. Unit) (λ k ds c b s. in_node k ds (fields_by c b ds) (fields_by_like c b ds)) (λ b. tt)
+
+pub any_flagged : (e : Option ℕ) (t : Tree) → LikeAt flags_alone (child t) (child (flagged e t))
+any_flagged e (branch k ds) = in_node k ds (flagged_in e ds) (only_flags e ds)
+
+-- a test of trees that asks each kind and each leaf, and no flag
+pub record Test : Type 0 where
+  pub at : Datum → Bool
+  pub in_all : Data → Bool
+  pub kind : Kind → Bool
+  pub nothing : in_all none ≡ true
+  pub first : (d : Datum) (ds : Data) → in_all (more d ds) ≡ (at d && in_all ds)
+  pub node : (k : Kind) (ds : Data) → at (child (branch k ds)) ≡ (kind k && in_all ds)
+  pub list : (ds : Data) → at (listed ds) ≡ in_all ds
+  pub flags : (b c : Bool) → at (flag b) ≡ at (flag c)
+
+-- of two tests, that the parts stay true
+pub implied : (a b c d : Bool) → (a ≡ true → c ≡ true) → (b ≡ true → d ≡ true) → (a && b) ≡ true → (c && d) ≡ true
+implied a b c d f g h = both c d (f (and_first a b h)) (g (and_second a b h))
+
+-- a map that makes no kind eager and changes no number, and whose scopes pass a test where they passed it before
+pub record Passes (q : Test) (m : Change) : Type 0 where
+  pub lazily : m.eagerly ≡ false
+  pub same : (n : ℕ) → m.number n ≡ n
+  pub scopes : (k : Kind) (ds es : Data) → m.scopes k ds es → q.in_all ds ≡ true → q.in_all es ≡ true
+
+mutual
+  pub passes_at : {q : Test} {m : Change} → Passes q m → {c d : Datum} → LikeAt m c d → q.at c ≡ true → q.at d ≡ true
+  passes_at {q} p (in_scope k ds es i o) h = q.node k es ∙ implied (q.kind k) (q.in_all ds) (q.kind k) (q.in_all es) (λ a. a) (p.scopes k ds es o) (sym (q.node k ds) ∙ h)
+  passes_at {q} p (in_node k ds es l) h = rw p.lazily (q.node k es ∙ implied (q.kind k) (q.in_all ds) (q.kind k) (q.in_all es) (λ a. a) (passes_in p l) (sym (q.node k ds) ∙ h))
+  passes_at {q} p (in_list ds es l) h = q.list es ∙ passes_in p l (sym (q.list ds) ∙ h)
+  passes_at {q} p (a_name n i) h = ap (λ m. q.at (name m)) (p.same n) ∙ h
+  passes_at {q} p (a_flag b c i) h = q.flags c b ∙ h
+  passes_at p _ h = h
+
+  pub passes_in : {q : Test} {m : Change} → Passes q m → {ds es : Data} → LikeIn m ds es → q.in_all ds ≡ true → q.in_all es ≡ true
+  passes_in p end h = h
+  passes_in {q} p (next c d cs ds f l) h = q.first d ds ∙ implied (q.at c) (q.in_all cs) (q.at d) (q.in_all ds) (passes_at p f) (passes_in p l) (sym (q.first c cs) ∙ h)
 
 -- the names of a tree with exact scopes
 
-abbrev names_alike : (ℕ → Bool) → Alike
-names_alike p = record {
-  of = λ t u. names_hold p t ≡ true → names_hold p u ≡ true;
-  at = λ c d. names_hold_at p c ≡ true → names_hold_at p d ≡ true;
-  fields = λ ns ds es. list_all p ns ≡ true → names_hold_in p ds ≡ true → names_hold_in p es ≡ true;
-  items = λ ds es. names_hold_in p ds ≡ true → names_hold_in p es ≡ true;
-  nodes = λ k ds es f h. f (bound_holds p ds h) h;
-  children = λ k ds es f. f;
-  lists = λ ds es f. f;
-  self = λ d h. h;
-  flags = λ b c h. refl;
-  no_fields = λ ns n h. h;
-  more_fields = λ ns c d cs ds f g n. implied (names_hold_at p c) (names_hold_in p cs) (names_hold_at p d) (names_hold_in p ds) f (g n);
-  no_items = λ h. h;
-  more_items = λ c d cs ds f g. implied (names_hold_at p c) (names_hold_in p cs) (names_hold_at p d) (names_hold_in p ds) f g;
-}
+abbrev names_test : (ℕ → Bool) → Test
+names_test p = record { at = names_hold_at p; in_all = names_hold_in p; kind = λ k. true; nothing = refl; first = λ d ds. refl; node = λ k ds. refl; list = λ ds. refl; flags = λ b c. refl }
 
-names_entered : (p : ℕ → Bool) → Entered p (λ es. names_hold_in p es ≡ true)
-names_entered p = record {
-  nothing = refl;
-  declared = λ a es n h. both (p a.name && true) (names_hold_in p es) (both (p a.name) true n refl) h;
-  bound = λ n es q h. both (p n && true) (names_hold_in p es) (both (p n) true q refl) h;
-  rest = λ n es q h. both (p n && true) (names_hold_in p es) (both (p n) true q refl) h;
-  positional = λ i n es q h. both (p n && true) (names_hold_in p es) (both (p n) true q refl) h;
+name_passes : (a b : Bool) → a ≡ true → b ≡ true → ((a && true) && b) ≡ true
+name_passes true b h g = g
+name_passes false b h g = cc
+
+names_entered : (n : ℕ) (p : ℕ → Bool) → Entered n p (λ s es. names_hold_in p es ≡ true)
+names_entered n p = record {
+  nothing = λ s. refl;
+  statement = λ a es q h. name_passes (p a.name) (names_hold_in p es) q h;
+  lexical = λ a es q h. name_passes (p a.name) (names_hold_in p es) q h;
+  bound = λ m es q h. name_passes (p m) (names_hold_in p es) q h;
+  rest = λ m es q h. name_passes (p m) (names_hold_in p es) q h;
+  positional = λ i m es l q h. name_passes (p m) (names_hold_in p es) q h;
 }
 
 flags_hold : (p : ℕ → Bool) (s : Shape) (b : Bool) → names_hold_in p (flags_by s b) ≡ true
 flags_hold p shape.Parameters b = refl
 flags_hold p _ b = refl
 
-names_scopes : (p : ℕ → Bool) → FilledScopes (names_alike p)
-names_scopes p ns k ds after es s f n h = let g : names_hold_in p after ≡ true = and_second (names_hold_in p ds) (names_hold_in p after) h
-    in both (names_hold_in p (entries (shape_of k) ns after) && names_hold_in p (flags (shape_of k) after)) (names_hold_in p es)
-    (both (names_hold_in p (entries (shape_of k) ns after)) (names_hold_in p (flags (shape_of k) after)) (entries_entered (names_entered p) (shape_of k) ns after n g) (flags_hold p (shape_of k) (is_simple after))) (f n g)
+-- flags alone change no test's answer
+pub flags_pass : (q : Test) → Passes q flags_alone
+flags_pass q = record { lazily = refl; same = λ n. refl; scopes = λ k ds es o. absurd o }
 
 pub filled_names : (p : ℕ → Bool) (t : Tree) → names_hold p t ≡ true → names_hold p (filled t) ≡ true
-filled_names p = filled_alike (names_alike p) (names_scopes p)
+filled_names p t h = passes_at {q = names_test p} (record {
+  lazily = refl;
+  same = λ n. refl;
+  scopes = λ k ds es o g. rw (o.is, entries_entered (names_entered (size t) p) (shape_of k) o.names o.behind o.small o.named o.held, flags_hold p (shape_of k) (is_simple o.behind)) refl;
+}) (filled_like_at (size t) p (child t) (le_self (size t)) h) h
 
 pub exact_names : (texts : List (Option (List ℕ))) (t : Tree) (p : ℕ → Bool) → names_hold p t ≡ true → names_hold p (exact texts t) ≡ true
-exact_names texts t p h = flagged_alike (names_alike p) (eval_name texts) (filled t) (filled_names p t h)
+exact_names texts t p h = passes_at (flags_pass (names_test p)) (any_flagged (eval_name texts) (filled t)) (filled_names p t h)

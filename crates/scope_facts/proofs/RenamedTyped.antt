@@ -4,7 +4,7 @@ use Rattle.bast_schema.specs.declared.kind.Union.{Union}
 use Rattle.bast_schema.specs.declared.kind.FieldType.{FieldType}
 use Rattle.bast_schema.specs.declared.kind.FieldType.TheVariants as field
 use Rattle.bast_schema.specs.Fields.{fields}
-use Rattle.bast_schema.specs.Tree.{Tree, branch, Datum, child, absent, listed, flag, index, whole, name, no_name, choice, window, Data, none, more, typed, fits, fit, items_fit, item_type, is_none, kind_of}
+use Rattle.bast_schema.specs.Tree.{Tree, branch, Datum, child, listed, name, Data, none, more, typed, fits, fit, items_fit, item_type, is_none, kind_of}
 use Rattle.scope_facts.specs.Renamed.{renamed, renamed_at, renamed_in}
 
 pub kind_renamed : (r : ℕ → ℕ) (t : Tree) → kind_of (renamed r t) ≡ kind_of t
@@ -23,19 +23,10 @@ mutual
   fits_renamed r (field.Optional u) (child t) = rw (kind_renamed r t, typed_renamed r t) refl
   fits_renamed r (field.Lazy u) (child t) = rw (kind_renamed r t, typed_renamed r t) refl
   fits_renamed r (field.List u holes nonempty) (listed ds) = rw (none_renamed r ds, items_renamed r u holes ds) refl
-  fits_renamed r field.Name (name n) = refl
-  fits_renamed r field.Label (name n) = refl
-  fits_renamed r field.Text (name n) = refl
   fits_renamed r _ (child t) = refl
   fits_renamed r _ (listed ds) = refl
   fits_renamed r _ (name n) = refl
-  fits_renamed r t absent = refl
-  fits_renamed r t (flag b) = refl
-  fits_renamed r t (index n) = refl
-  fits_renamed r t (whole n) = refl
-  fits_renamed r t no_name = refl
-  fits_renamed r t (choice n) = refl
-  fits_renamed r t (window from to) = refl
+  fits_renamed r _ _ = refl
 
   pub fit_renamed : (r : ℕ → ℕ) (ts : List FieldType) (ds : Data) → fit ts (renamed_in r ds) ≡ fit ts ds
   fit_renamed r [] none = refl

@@ -16,7 +16,7 @@ use Rattle.scope_facts.specs.Uses.{is_scope, first_name, is_name, is_entry, has_
 use Rattle.scope_facts.specs.Flagged.{holds_of, entry_by, entries_by, scope_by, flagged_scope, flagged_in}
 use Rattle.scope_facts.specs.Covers.{cover_of, touched, is_caught, is_within, AreWithin, has_name, entry_name, names_among, entry_names, restored, inside_now, Touches}
 use Rattle.scope_facts.proofs.Nearest.{or_left, or_right, crossed_used_in}
-use Rattle.scope_facts.proofs.FlaggedItems.{or_assoc, used_last, crossed_last}
+use Rattle.scope_facts.proofs.Loops.{any_last, or_assoc}
 
 or_false : (b : Bool) → (b || false) ≡ b
 or_false true = refl
@@ -230,4 +230,4 @@ pub item_touches : (ys : List Value) (v : Value) (now : ℕ) (os bs cs : List (O
 item_touches ys v now os bs cs h t =
     let r : Touches (λ x. used_among x (data_of ys) || used_at x (datum v)) (λ x. crossed_among x (data_of ys) || crossed_at x (datum v)) now os cs
     = touches_both (λ x. used_among x (data_of ys)) (λ x. crossed_among x (data_of ys)) (λ x. used_at x (datum v)) (λ x. crossed_at x (datum v)) now os bs cs h t
-    in record { all = λ x. r.all x ∙ rw (used_last x ys v, crossed_last x ys v) refl }
+    in record { all = λ x. r.all x ∙ rw (any_last (used_among x) (used_at x) refl (λ d ds. refl) ys v, any_last (crossed_among x) (crossed_at x) refl (λ d ds. refl) ys v) refl }

@@ -1,8 +1,7 @@
 use Rattle.std.proofs.Common.{ap, ◌∙◌}
 use Rattle.bast_schema.specs.View.{datum}
 use Rattle.scope_facts.specs.Bare.{empty_fields}
-use Rattle.scope_facts.proofs.FilledTyped.{scope_kind}
-use Rattle.scope_facts.proofs.BareTyped.{empty_made}
+use Rattle.scope_facts.proofs.Typed.{scope_kind, empty_made}
 use Rattle.scope_facts.proofs.bare.empty_scope.Goals as goal
 
 pub rebuilt-requires : goal.rebuilt-requires

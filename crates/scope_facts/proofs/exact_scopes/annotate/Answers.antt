@@ -7,12 +7,11 @@ use Rattle.scope_facts.specs.Flagged.{flagged}
 use Rattle.bast_schema.specs.NamesHold.{names_hold}
 use Rattle.scope_facts.proofs.WholeKept.{exact_whole}
 use Rattle.scope_facts.proofs.NamesKept.{exact_names}
-use Rattle.scope_facts.proofs.FlaggedTyped.{depth_same, size_same}
-use Rattle.scope_facts.proofs.FilledTyped.{filled_depth}
+use Rattle.scope_facts.proofs.Typed.{depth_same, size_same, filled_depth}
 use Rattle.scope_facts.proofs.exact_scopes.annotate.Goals as goal
 
 exact_depth : (texts : List (Option (List ℕ))) (t : Tree) → depth (exact texts t) ≤ depth t
-exact_depth texts t = subst (λ n. n ≤ depth t) (sym (depth_same (eval_name texts) (filled t))) (filled_depth t)
+exact_depth texts t = omega (arith, depth_same (eval_name texts) (filled t), filled_depth t)
 
 pub returns : goal.returns
 returns c =

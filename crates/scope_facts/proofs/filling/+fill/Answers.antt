@@ -2,11 +2,10 @@ use Rattle.std.proofs.Common.{refl, ◌∙◌, ◌*◌, ◌≡◌, ◌≤◌, ap
 use Rattle.bast_schema.specs.Counts.{size}
 use Rattle.bast_schema.specs.Tree.{typed}
 use Rattle.bast_schema.specs.View.{data_of}
-use Rattle.scope_facts.specs.Filled.{filled, filled_in}
-use Rattle.scope_facts.proofs.Loops.{item_weighs, item_size, step_on}
-use Rattle.scope_facts.proofs.FilledItems.{filled_step}
+use Rattle.scope_facts.specs.Filled.{filled, filled_at, filled_in, filled_among}
+use Rattle.scope_facts.proofs.Loops.{item_weighs, item_size, mapped_step, step_on}
 use Rattle.scope_facts.proofs.ExactSize.{filled_small}
-use Rattle.scope_facts.proofs.FilledTyped.{filled_made, from_is_true}
+use Rattle.scope_facts.proofs.Typed.{filled_made, from_is_true}
 use Rattle.scope_facts.proofs.filling.+fill.Goals as goal
 
 pub fill_items-fill_value-requires : goal.fill_items-fill_value-requires
@@ -14,7 +13,7 @@ fill_items-fill_value-requires t c = (omega (arith, item_weighs _ _ _ _ _ c.loop
 
 pub fill_items-loop-value-preserved : goal.fill_items-loop-value-preserved
 fill_items-loop-value-preserved t c = record {
-  filled = ap data_of c.in_ok-push.ensures.items ∙ filled_step _ _ _ _ c.loop-value.invariant.filled c.in_ok-fill_value.ensures;
+  filled = ap data_of c.in_ok-push.ensures.items ∙ mapped_step filled_among filled_at refl (λ d ds. refl) _ _ _ _ c.loop-value.invariant.filled c.in_ok-fill_value.ensures;
   all = step_on _ _ _ _ _ c.loop-value.invariant.all c.in-Some.ensures.steps.0;
 }
 

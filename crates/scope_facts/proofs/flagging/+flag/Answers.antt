@@ -1,12 +1,11 @@
-use Rattle.std.proofs.Common.{◌∙◌, sym, ap, arith, ◌||◌, ◌+◌, ◌≤◌, false, subst}
+use Rattle.std.proofs.Common.{◌∙◌, sym, ap, arith, refl, ◌||◌, ◌+◌, ◌≤◌, false, subst}
 use Rattle.bast_schema.specs.Tree.{depth_in, weight}
 use Rattle.bast_schema.specs.View.{datum, data_of}
-use Rattle.scope_facts.specs.Uses.{first_name, evals_at, is_use_named, used_in, crossed_in, used_among, crossed_among}
-use Rattle.scope_facts.specs.Flagged.{scope_by}
+use Rattle.scope_facts.specs.Uses.{first_name, evals_at, evals_among, is_use_named, used_in, crossed_in, used_among, crossed_among}
+use Rattle.scope_facts.specs.Flagged.{scope_by, flagged_at, flagged_among}
 use Rattle.scope_facts.specs.Covers.{cover_of, is_caught, AreWithin, Touches}
-use Rattle.scope_facts.proofs.Loops.{item_weighs, item_depth, step_on}
-use Rattle.scope_facts.proofs.FlaggedItems.{flagged_step, evals_last}
-use Rattle.scope_facts.proofs.FlaggedTyped.{flagged_made}
+use Rattle.scope_facts.proofs.Loops.{any_last, item_weighs, item_depth, mapped_step, step_on}
+use Rattle.scope_facts.proofs.Typed.{flagged_made}
 use Rattle.scope_facts.proofs.Touched.{within_after, within_inside, node_touches, depth_inside, scope_touches, scope_fields, field_touches, item_touches}
 use Rattle.scope_facts.proofs.flagging.+flag.Goals as goal
 
@@ -33,8 +32,8 @@ flag_items-flag_value-requires t c = (
 
 pub flag_items-loop-value-preserved : goal.flag_items-loop-value-preserved
 flag_items-loop-value-preserved t c = record {
-  items = ap data_of c.in_ok-push.ensures.items ∙ flagged_step _ _ _ _ _ c.loop-value.invariant.items c.in_ok-value.ensures.value;
-  evals = ap (λ b. c.loop-value.evals || b) c.in_ok-value.ensures.evals ∙ ap (λ b. b || evals_at c.args.eval (datum c.in-Some.value)) c.loop-value.invariant.evals ∙ sym (evals_last c.args.eval c.loop-value.yielded c.in-Some.value);
+  items = ap data_of c.in_ok-push.ensures.items ∙ mapped_step (flagged_among c.args.eval) (flagged_at c.args.eval) refl (λ d ds. refl) _ _ _ _ c.loop-value.invariant.items c.in_ok-value.ensures.value;
+  evals = ap (λ b. c.loop-value.evals || b) c.in_ok-value.ensures.evals ∙ ap (λ b. b || evals_at c.args.eval (datum c.in-Some.value)) c.loop-value.invariant.evals ∙ sym (any_last (evals_among c.args.eval) (evals_at c.args.eval) refl (λ d ds. refl) c.loop-value.yielded c.in-Some.value);
   covers = item_touches c.loop-value.yielded c.in-Some.value _ _ _ _ c.loop-value.invariant.covers c.in_ok-value.ensures.covers;
   all = step_on _ _ _ _ _ c.loop-value.invariant.all c.in-Some.ensures.steps.0;
 }

@@ -1,4 +1,4 @@
-use Rattle.scope_facts.proofs.FlaggedTyped.{flag_made}
+use Rattle.scope_facts.proofs.Typed.{flag_made}
 use Rattle.scope_facts.proofs.flags.flag_entry.Goals as goal
 
 pub rebuilt-requires : goal.rebuilt-requires
