@@ -1,7 +1,6 @@
 -- What the steps of a recipe gather holds what the parts hold.
 use Rattle.std.proofs.Common.{◌≡◌, Bool, true, not, ◌&&◌, List, [], ◌∷◌, ◌++◌, Option, Some, None, Result, Ok, refl}
 use Rattle.bast_base.specs.declared.errors.NameId.{NameId}
-use Rattle.bast_schema.specs.declared.kind.EnumId.{EnumId}
 use Rattle.bast_schema.specs.declared.kind.Kind.{Kind}
 use Rattle.bast_schema.specs.declared.kind.Kind.TheVariants as kinds
 use Rattle.bast_schema.specs.Counts.{join}
@@ -115,21 +114,6 @@ directives_held : (m : Maker) (P : Datum → Type 0) → Kept m P → (is : List
 directives_held m P kept [] h = tt
 directives_held m P kept (i ∷ is) h = directives_held_from m P kept i.raw (directives m is) h.1 (directives_held m P kept is h.2)
 
-hold_got : (P : Datum → Type 0) (w : Work) → HoldsWork P w → HoldsWork P (hold w)
-unfolding hold
-hold_got P w h = record { values = tt; held = h.values; directives = h.directives; raw = h.raw; endings = h.endings; items = h.items }
-
-resume_got : (m : Maker) (P : Datum → Type 0) → Kept m P → (w : Work) → HoldsWork P w → HoldsWork P (resume w)
-unfolding resume
-resume_got m P kept w h = record {
-  values = each_join P w.held (more (listed w.directives) w.values) h.held (kept.list w.directives h.directives, h.values);
-  held = tt;
-  directives = tt;
-  raw = h.raw;
-  endings = h.endings;
-  items = h.items;
-}
-
 closed_got : (m : Maker) (P : Datum → Type 0) → Kept m P → (j : Kind) → is_made j ≡ true → (w : Work) → HoldsWork P w → Holds (HoldsWork P) (closed m j w)
 unfolding closed
 closed_got m P kept j is w h =
@@ -144,7 +128,7 @@ is_made_by (steps.Close k) = is_made k
 is_made_by _ = true
 
 step_got : (m : Maker) (P : Datum → Type 0) → Kept m P → (s : Step) (w : Work) (ps : List Part) → is_made_by s ≡ true → HoldsWork P w → HoldsParts P ps → Holds (Got P) (step_on m s w ps)
-unfolding skip put operand wrap text whole_number named quoted with_operator parameter template_part tail rest with_statements body
+unfolding skip put operand wrap text whole_number named quoted with_operator parameter template_part tail rest with_statements body hold resume
 step_got m P kept steps.Skip w ps is h k = then (HoldsParts P) (Got P) (without_top ps) (λ rest. Ok (w, rest)) (top_taken P ps k) (λ rest r. (h, r))
 step_got m P kept steps.Put w ps is h k =
     then (ValuesTaken P) (Got P) (taken_values ps) (λ v. Ok (record w { values = join w.values v.0.0 }, v.1)) (values_taken P ps k) (λ v r. (with_values P w v.0.0 h r.0.0, r.1))
@@ -196,17 +180,9 @@ step_got m P kept steps.Statements w ps is h k =
 step_got m P kept steps.Body w ps is h k =
     then (ItemsTaken P) (Got P) (taken_items ps) _ (items_taken P ps k)
     (λ i r. then (Each P) (Got P) (directives m i.0) (λ ds. Ok (record w { values = join w.values (one (listed (statements (behind_directives i.0)))); directives = ds }, i.1)) (directives_held m P kept i.0 r.0)
-    (λ ds id. (
-      record {
-        values = each_join P w.values (one (listed (statements (behind_directives i.0)))) h.values (kept.list (statements (behind_directives i.0)) (statements_held P (behind_directives i.0) (directives_behind P i.0 r.0)), tt);
-        held = h.held;
-        directives = id;
-        raw = h.raw;
-        endings = h.endings;
-        items = h.items;
-      },
-      r.1,
-    )))
+    (λ ds id. let all = kept.list (statements (behind_directives i.0)) (statements_held P (behind_directives i.0) (directives_behind P i.0 r.0))
+    in let values = each_join P w.values (one (listed (statements (behind_directives i.0)))) h.values (all, tt)
+    in (record { values = values; held = h.held; directives = id; raw = h.raw; endings = h.endings; items = h.items }, r.1)))
 step_got m P kept steps.Absent w ps is h k = value_got P absent w ps kept.no_node h k
 step_got m P kept steps.NoLabel w ps is h k = value_got P no_name w ps kept.no_label h k
 step_got m P kept steps.NoItems w ps is h k = value_got P (listed none) w ps (kept.list none tt) h k
@@ -214,8 +190,10 @@ step_got m P kept (steps.Flag b) w ps is h k = value_got P (flag b) w ps (kept.f
 step_got m P kept (steps.Choice n) w ps is h k = value_got P (choice n) w ps (kept.choices n) h k
 step_got m P kept (steps.Scope j) w ps is h k = let b = both (not (has_lazy j)) (has_one_flag (shape_of j)) is in node_got P (m j no_names) w ps (scope_made m P kept j (is_not (has_lazy j) b.0) b.1) h k
 step_got m P kept steps.ParameterScope w ps is h k = node_got P (m kinds.AssertedParameterScope no_parameter_names) w ps (parameter_scope_made m P kept) h k
-step_got m P kept steps.Hold w ps is h k = (hold_got P w h, k)
-step_got m P kept steps.Resume w ps is h k = (resume_got m P kept w h, k)
+step_got m P kept steps.Hold w ps is h k = (record { values = tt; held = h.values; directives = h.directives; raw = h.raw; endings = h.endings; items = h.items }, k)
+step_got m P kept steps.Resume w ps is h k =
+    let all = each_join P w.held (more (listed w.directives) w.values) h.held (kept.list w.directives h.directives, h.values)
+    in (record { values = all; held = tt; directives = tt; raw = h.raw; endings = h.endings; items = h.items }, k)
 step_got m P kept (steps.Close j) w ps is h k = then (HoldsWork P) (Got P) (closed m j w) (λ x. Ok (x, ps)) (closed_got m P kept j is w h) (λ x ix. (ix, k))
 
 abbrev pub all_made_by : List Step → Bool

@@ -1,7 +1,6 @@
 -- How many values a row adds to those of its symbols' parts.
 use Rattle.std.proofs.Common.{◌≡◌, ◌≤◌, ◌+◌, ℕ, List, [], ◌∷◌, ◌++◌, Option, Some, None, Result, Ok, Err, refl, arith}
 use Rattle.bast_base.specs.declared.errors.NameId.{NameId}
-use Rattle.bast_schema.specs.declared.kind.EnumId.{EnumId}
 use Rattle.bast_schema.specs.declared.kind.Kind.{Kind}
 use Rattle.bast_schema.specs.declared.kind.Kind.TheVariants as kinds
 use Rattle.bast_schema.specs.Counts.{join, size, size_at, size_in}
@@ -168,14 +167,6 @@ parted_items : (m : Maker) → Sized m → (is : List Item) → Holds (Parted is
 parted_items m sized [] = omega arith
 parted_items m sized (i ∷ is) = parted_from m sized i.raw i is (directives m is) refl (parted_items m sized is)
 
-hold_got : (w : Work) → heft_work (hold w) ≤ heft_work w
-unfolding hold
-hold_got w = omega arith
-
-resume_got : (w : Work) → heft_work (resume w) ≤ heft_work w + 1
-unfolding resume
-resume_got w = omega (arith, size_join w.held (more (listed w.directives) w.values))
-
 closed_got : (m : Maker) → Sized m → (j : Kind) (w : Work) → Holds (λ x. heft_work x ≤ heft_work w + 1) (closed m j w)
 unfolding closed
 closed_got m sized j w =
@@ -205,7 +196,7 @@ step_cost (steps.Close k) = 1
 step_cost _ = 0
 
 step_got : (m : Maker) → Sized m → (s : Step) (w : Work) (ps : List Part) (n : ℕ) → heft_work w + heft_parts ps + step_cost s ≤ n → Holds (Got n) (step_on m s w ps)
-unfolding skip put operand wrap text whole_number named quoted with_operator parameter template_part tail rest with_statements body
+unfolding skip put operand wrap text whole_number named quoted with_operator parameter template_part tail rest with_statements body hold resume
 step_got m sized steps.Skip w ps n le = then (PartsLeft (heft_parts ps)) (Got n) (without_top ps) (λ rest. Ok (w, rest)) (top_left ps) (λ rest r. omega arith)
 step_got m sized steps.Put w ps n le =
     then (ValuesLeft (heft_parts ps)) (Got n) (taken_values ps) (λ v. Ok (record w { values = join w.values v.0.0 }, v.1)) (values_left ps) (λ v r. omega (arith, size_join w.values v.0.0))
@@ -264,8 +255,8 @@ step_got m sized (steps.Choice i) w ps n le = value_got (choice i) w ps n (omega
 step_got m sized (steps.Scope j) w ps n le = node_got (m j no_names) w ps 3 n (node_made m sized j no_names 3 (omega arith)) (omega arith)
 step_got m sized steps.ParameterScope w ps n le =
     node_got (m kinds.AssertedParameterScope no_parameter_names) w ps 4 n (node_made m sized kinds.AssertedParameterScope no_parameter_names 4 (omega arith)) (omega arith)
-step_got m sized steps.Hold w ps n le = omega (arith, hold_got w)
-step_got m sized steps.Resume w ps n le = omega (arith, resume_got w)
+step_got m sized steps.Hold w ps n le = omega arith
+step_got m sized steps.Resume w ps n le = omega (arith, size_join w.held (more (listed w.directives) w.values))
 step_got m sized (steps.Close j) w ps n le = then (λ x. heft_work x ≤ heft_work w + 1) (Got n) (closed m j w) (λ x. Ok (x, ps)) (closed_got m sized j w) (λ x ix. omega (arith, ix))
 
 abbrev pub steps_cost : List Step → ℕ

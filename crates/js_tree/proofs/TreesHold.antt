@@ -11,7 +11,7 @@ use Rattle.bast_schema.specs.Counts.{is_whole, is_whole_at, is_whole_in}
 use Rattle.bast_schema.specs.Fields.{fields, has_lazy}
 use Rattle.bast_schema.specs.Kinds.{same_kind}
 use Rattle.bast_schema.specs.Made.{node_or}
-use Rattle.bast_schema.specs.Tree.{Tree, branch, Datum, child, listed, flag, name, window, Data, none, more, first_wrong, depth, depth_at, depth_in}
+use Rattle.bast_schema.specs.Tree.{Tree, branch, Datum, child, listed, flag, name, Data, none, more, first_wrong, depth, depth_at, depth_in}
 use Rattle.js_machine.specs.declared.events.Event.{Event}
 use Rattle.bast_schema.specs.Eager.{is_eager, is_eager_at, are_eager}
 use Rattle.scope_facts.specs.Bare.{empty_fields, bare_scope, bare, bare_at, bare_in}
