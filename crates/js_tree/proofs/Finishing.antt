@@ -94,34 +94,14 @@ folds_held m P kept w ps h k =
     (then (Has P) (HoldsParts P) (one_node w.values) (λ t. folded m w.endings t >>= λ t. Ok (parts.Values (one (child t)) None ∷ ps)) (one_node_taken P w.values h.values)
     (λ t it. made_end P (folded m w.endings t) ps (folded_held m P kept w.endings t h.endings it) k))
 
-statement_held : (m : Maker) (P : Datum → Type 0) → Kept m P → (w : Work) (ps : List Part) → HoldsWork P w → HoldsParts P ps → Holds (HoldsParts P) (statement m w ps)
-unfolding statement
-statement_held m P kept w ps h k =
-    either (HoldsParts P) (length w.endings == 0) (m kinds.ExpressionStatement w.values >>= λ t. Ok (parts.Values (one (child t)) w.raw ∷ ps)) (folds m w ps)
-    (then (Has P) (HoldsParts P) (m kinds.ExpressionStatement w.values) (λ t. Ok (parts.Values (one (child t)) w.raw ∷ ps)) (node_made m P kept kinds.ExpressionStatement w.values refl h.values) (λ t it. (((it, tt), h.raw), k)))
-    (folds_held m P kept w ps h k)
-
 shorthand_held : (m : Maker) (P : Datum → Type 0) → Kept m P → (ds : Data) → Each P ds → Holds (Has P) (shorthand m ds)
 shorthand_held m P kept ds h =
     then (λ t. m kinds.IdentifierExpression ds ≡ Ok t) (Has P) (m kinds.IdentifierExpression ds) (λ t. m kinds.ShorthandProperty (one (child t))) (each_result (λ t. m kinds.IdentifierExpression ds ≡ Ok t) (m kinds.IdentifierExpression ds) (λ t e. e))
     (λ t it. each_result (Has P) (m kinds.ShorthandProperty (one (child t))) (λ u e. kept.shorthand ds t u h it e))
 
-pub property_held : (m : Maker) (P : Datum → Type 0) → Kept m P → (w : Work) (ps : List Part) → HoldsWork P w → HoldsParts P ps → Holds (HoldsParts P) (property m w ps)
-unfolding property
-property_held m P kept w ps h k =
-    either (HoldsParts P) (length w.endings == 0) _ _ (made_end P (shorthand m w.values) ps (shorthand_held m P kept w.values h.values) k)
-    (then (Has P) (HoldsParts P) (m kinds.LiteralPropertyName w.values) (λ t. folded m w.endings t >>= λ t. Ok (parts.Values (one (child t)) None ∷ ps)) (node_made m P kept kinds.LiteralPropertyName w.values refl h.values)
-    (λ t it. made_end P (folded m w.endings t) ps (folded_held m P kept w.endings t h.endings it) k))
-
 filled_held : (P : Datum → Type 0) (e : Ending) (d : Datum) (ps : List Part) → HoldsEnding P e → P d → HoldsParts P ps → Holds (HoldsParts P) (filled e d ps)
 filled_held P (endings.Around j form before behind) d ps e h k = (((e.0, tt, each_join P before (more d behind) e.2 (h, e.3), tt), tt), k)
 filled_held P (endings.Instead t) d ps e h k = tt
-
-fills_held : (P : Datum → Type 0) (w : Work) (ps : List Part) → HoldsWork P w → HoldsParts P ps → Holds (HoldsParts P) (fills w ps)
-unfolding fills
-fills_held P w ps h k =
-    then P (HoldsParts P) (one_value w.values) (λ d. one_ending w.endings >>= λ e. filled e d ps) (one_taken P w.values h.values)
-    (λ d id. then (HoldsEnding P) (HoldsParts P) (one_ending w.endings) (λ e. filled e d ps) (one_ending_held P w.endings h.endings) (λ e ie. filled_held P e d ps ie id k))
 
 declaration_held : (m : Maker) (P : Datum → Type 0) → Kept m P → (how : Declared) (ds : Data) → Each P ds → Holds (Has P) (declaration m how ds)
 declaration_held m P kept declared.Var ds h = node_made m P kept kinds.VarDeclaration (one (listed ds)) refl (kept.list ds h, tt)
@@ -142,46 +122,13 @@ bound_held m P kept how b (endings.Around j form before behind) ps h e k =
     (λ t it. filled_held P (endings.Around j form before behind) (child t) ps e it k)
 bound_held m P kept how b (endings.Instead t) ps h e k = tt
 
-binds_held : (m : Maker) (P : Datum → Type 0) → Kept m P → (how : Declared) (w : Work) (ps : List Part) → HoldsWork P w → HoldsParts P ps → Holds (HoldsParts P) (binds m how w ps)
-unfolding binds
-binds_held m P kept how w ps h k =
-    then P (HoldsParts P) (one_value w.values) (λ d. one_ending w.endings >>= λ e. bound m how d e ps) (one_taken P w.values h.values)
-    (λ d id. then (HoldsEnding P) (HoldsParts P) (one_ending w.endings) (λ e. bound m how d e ps) (one_ending_held P w.endings h.endings) (λ e ie. bound_held m P kept how d e ps id ie k))
-
 declaring_held : (P : Datum → Type 0) (ds : Data) (e : Ending) (ps : List Part) → Each P ds → HoldsEnding P e → HoldsParts P ps → Holds (HoldsParts P) (declaring ds e ps)
 declaring_held P ds (endings.Around j form before behind) ps h e k = (((e.0, h, e.2, e.3), tt), k)
 declaring_held P ds (endings.Instead t) ps h e k = tt
 
-declares_held : (P : Datum → Type 0) (w : Work) (ps : List Part) → HoldsWork P w → HoldsParts P ps → Holds (HoldsParts P) (declares w ps)
-unfolding declares
-declares_held P w ps h k = then (HoldsEnding P) (HoldsParts P) (one_ending w.endings) (λ e. declaring w.values e ps) (one_ending_held P w.endings h.endings) (λ e ie. declaring_held P w.values e ps h.values ie k)
-
-arrow_held : (m : Maker) (P : Datum → Type 0) → Kept m P → (w : Work) (ps : List Part) → HoldsWork P w → HoldsParts P ps → Holds (HoldsParts P) (arrow_body w ps)
-unfolding arrow_body
-arrow_held m P kept w ps h k = (((refl, h.values, (kept.list w.directives h.directives, tt), tt), tt), k)
-
 tries_kind : (b : Bool) → is_made (cond b kinds.TryCatchStatement kinds.TryFinallyStatement) ≡ true
 tries_kind true = refl
 tries_kind false = refl
-
-tries_held : (P : Datum → Type 0) (w : Work) (ps : List Part) → HoldsWork P w → HoldsParts P ps → Holds (HoldsParts P) (tries w ps)
-unfolding tries
-tries_held P w ps h k = (((tries_kind (count w.values == 1), tt, h.held, h.values), h.endings), k)
-
-sequence_held : (m : Maker) (P : Datum → Type 0) → Kept m P → (w : Work) (ps : List Part) → HoldsWork P w → HoldsParts P ps → Holds (HoldsParts P) (sequence m w ps)
-unfolding sequence
-sequence_held m P kept w ps h k =
-    either (HoldsParts P) (is_none w.values) (Ok (parts.Values w.held w.raw ∷ ps)) _ ((h.held, h.raw), k)
-    (made_end P (m kinds.SequenceExpression (join w.held (one (listed w.values)))) ps
-    (node_made m P kept kinds.SequenceExpression (join w.held (one (listed w.values))) refl (each_join P w.held (one (listed w.values)) h.held (kept.list w.values h.values, tt))) k)
-
-instead_held : (P : Datum → Type 0) (w : Work) (ps : List Part) → HoldsWork P w → HoldsParts P ps → Holds (HoldsParts P) (instead w ps)
-unfolding instead
-instead_held P w ps h k = then (Has P) (HoldsParts P) (one_node w.values) (λ t. Ok (parts.Endings (endings.Instead t ∷ []) ∷ ps)) (one_node_taken P w.values h.values) (λ t it. ((it, tt), k))
-
-item_held : (P : Datum → Type 0) (w : Work) (ps : List Part) → HoldsWork P w → HoldsParts P ps → Holds (HoldsParts P) (add_item w ps)
-unfolding add_item
-item_held P w ps h k = then (Has P) (HoldsParts P) (one_node w.values) (λ t. Ok (parts.Items (record { statement = t; raw = w.raw } ∷ w.items) ∷ ps)) (one_node_taken P w.values h.values) (λ t it. ((it, h.raw, h.items), k))
 
 before_step : (P : Datum → Type 0) (b : Bool) (d : Datum) (ds : Data) → P d → Each P ds → Each P (cond b none (more d ds))
 before_step P true d ds h k = tt
@@ -205,12 +152,6 @@ switch_held_of m P kept held before (more d behind) h b k =
     node_made m P kept kinds.SwitchStatementWithDefault (join held (more (listed before) (two d (listed behind)))) refl
     (each_join P held (more (listed before) (two d (listed behind))) h (kept.list before b, (k.0, (kept.list behind k.1, tt))))
 
-switch_held : (m : Maker) (P : Datum → Type 0) → Kept m P → (w : Work) (ps : List Part) → HoldsWork P w → HoldsParts P ps → Holds (HoldsParts P) (switch m w ps)
-unfolding switch
-switch_held m P kept w ps h k =
-    made_end P (switch_of m w.held (before_default w.values) (from_default w.values)) ps
-    (switch_held_of m P kept w.held (before_default w.values) (from_default w.values) h.held (before_held P w.values h.values) (from_held P w.values h.values)) k
-
 behind_held : (P : Datum → Type 0) (d : Datum) (ds : Data) → P d → Each P ds → Each P (last_behind d ds).0 × P (last_behind d ds).1
 behind_held P d none h k = (tt, h)
 behind_held P d (more e es) h k = let r = behind_held P e es k.0 k.1 in ((h, r.0), r.1)
@@ -219,12 +160,6 @@ last_held : (P : Datum → Type 0) (ds : Data) → Each P ds → Holds (λ l. Ea
 last_held P none h = tt
 last_held P (more d ds) h = behind_held P d ds h.0 h.1
 
-all_parameters_held : (m : Maker) (P : Datum → Type 0) → Kept m P → (w : Work) (ps : List Part) → HoldsWork P w → HoldsParts P ps → Holds (HoldsParts P) (parameters m w ps)
-unfolding parameters
-all_parameters_held m P kept w ps h k =
-    then (λ l. Each P l.0 × P l.1) (HoldsParts P) (last_value w.values) (λ l. m kinds.FormalParameters (two (listed l.0) l.1) >>= λ t. Ok (parts.Values (one (child t)) None ∷ ps)) (last_held P w.values h.values)
-    (λ l il. made_end P (m kinds.FormalParameters (two (listed l.0) l.1)) ps (node_made m P kept kinds.FormalParameters (two (listed l.0) l.1) refl (kept.list l.0 il.0, (il.1, tt))) k)
-
 abbrev pub is_finished_by : Finish → Bool
 is_finished_by (finishes.Ends k) = is_made k
 is_finished_by (finishes.EndsParameters k) = is_made k
@@ -232,6 +167,7 @@ is_finished_by (finishes.EndsLabel k) = is_made k
 is_finished_by _ = true
 
 finish_held : (m : Maker) (P : Datum → Type 0) → Kept m P → (f : Finish) (w : Work) (ps : List Part) → is_finished_by f ≡ true → HoldsWork P w → HoldsParts P ps → Holds (HoldsParts P) (finish_on m f w ps)
+unfolding fills binds declares arrow_body tries sequence statement property instead add_item switch parameters
 finish_held m P kept finishes.Same w ps is h k = k
 finish_held m P kept finishes.Values w ps is h k = ((h.values, tt), k)
 finish_held m P kept finishes.Folds w ps is h k = folds_held m P kept w ps h k
@@ -239,19 +175,39 @@ finish_held m P kept (finishes.Ends j) w ps is h k = (((is, tt, h.held, h.values
 finish_held m P kept (finishes.EndsParameters j) w ps is h k = (((is, tt, h.held, h.values), h.endings), k)
 finish_held m P kept (finishes.EndsLabel j) w ps is h k = (((is, tt, h.held, h.values), h.endings), k)
 finish_held m P kept finishes.Endings w ps is h k = (h.endings, k)
-finish_held m P kept finishes.Fills w ps is h k = fills_held P w ps h k
-finish_held m P kept (finishes.Binds how) w ps is h k = binds_held m P kept how w ps h k
-finish_held m P kept finishes.Declares w ps is h k = declares_held P w ps h k
-finish_held m P kept finishes.ArrowBody w ps is h k = arrow_held m P kept w ps h k
-finish_held m P kept finishes.Tries w ps is h k = tries_held P w ps h k
-finish_held m P kept finishes.Sequence w ps is h k = sequence_held m P kept w ps h k
-finish_held m P kept finishes.Statement w ps is h k = statement_held m P kept w ps h k
-finish_held m P kept finishes.Property w ps is h k = property_held m P kept w ps h k
-finish_held m P kept finishes.Instead w ps is h k = instead_held P w ps h k
-finish_held m P kept finishes.Items w ps is h k = item_held P w ps h k
+finish_held m P kept finishes.Fills w ps is h k =
+    then P (HoldsParts P) (one_value w.values) (λ d. one_ending w.endings >>= λ e. filled e d ps) (one_taken P w.values h.values)
+    (λ d id. then (HoldsEnding P) (HoldsParts P) (one_ending w.endings) (λ e. filled e d ps) (one_ending_held P w.endings h.endings) (λ e ie. filled_held P e d ps ie id k))
+finish_held m P kept (finishes.Binds how) w ps is h k =
+    then P (HoldsParts P) (one_value w.values) (λ d. one_ending w.endings >>= λ e. bound m how d e ps) (one_taken P w.values h.values)
+    (λ d id. then (HoldsEnding P) (HoldsParts P) (one_ending w.endings) (λ e. bound m how d e ps) (one_ending_held P w.endings h.endings) (λ e ie. bound_held m P kept how d e ps id ie k))
+finish_held m P kept finishes.Declares w ps is h k =
+    then (HoldsEnding P) (HoldsParts P) (one_ending w.endings) (λ e. declaring w.values e ps) (one_ending_held P w.endings h.endings) (λ e ie. declaring_held P w.values e ps h.values ie k)
+finish_held m P kept finishes.ArrowBody w ps is h k = (((refl, h.values, (kept.list w.directives h.directives, tt), tt), tt), k)
+finish_held m P kept finishes.Tries w ps is h k = (((tries_kind (count w.values == 1), tt, h.held, h.values), h.endings), k)
+finish_held m P kept finishes.Sequence w ps is h k =
+    either (HoldsParts P) (is_none w.values) (Ok (parts.Values w.held w.raw ∷ ps)) _ ((h.held, h.raw), k)
+    (made_end P (m kinds.SequenceExpression (join w.held (one (listed w.values)))) ps
+    (node_made m P kept kinds.SequenceExpression (join w.held (one (listed w.values))) refl (each_join P w.held (one (listed w.values)) h.held (kept.list w.values h.values, tt))) k)
+finish_held m P kept finishes.Statement w ps is h k =
+    either (HoldsParts P) (length w.endings == 0) (m kinds.ExpressionStatement w.values >>= λ t. Ok (parts.Values (one (child t)) w.raw ∷ ps)) (folds m w ps)
+    (then (Has P) (HoldsParts P) (m kinds.ExpressionStatement w.values) (λ t. Ok (parts.Values (one (child t)) w.raw ∷ ps)) (node_made m P kept kinds.ExpressionStatement w.values refl h.values) (λ t it. (((it, tt), h.raw), k)))
+    (folds_held m P kept w ps h k)
+finish_held m P kept finishes.Property w ps is h k =
+    either (HoldsParts P) (length w.endings == 0) _ _ (made_end P (shorthand m w.values) ps (shorthand_held m P kept w.values h.values) k)
+    (then (Has P) (HoldsParts P) (m kinds.LiteralPropertyName w.values) (λ t. folded m w.endings t >>= λ t. Ok (parts.Values (one (child t)) None ∷ ps)) (node_made m P kept kinds.LiteralPropertyName w.values refl h.values)
+    (λ t it. made_end P (folded m w.endings t) ps (folded_held m P kept w.endings t h.endings it) k))
+finish_held m P kept finishes.Instead w ps is h k =
+    then (Has P) (HoldsParts P) (one_node w.values) (λ t. Ok (parts.Endings (endings.Instead t ∷ []) ∷ ps)) (one_node_taken P w.values h.values) (λ t it. ((it, tt), k))
+finish_held m P kept finishes.Items w ps is h k =
+    then (Has P) (HoldsParts P) (one_node w.values) (λ t. Ok (parts.Items (record { statement = t; raw = w.raw } ∷ w.items) ∷ ps)) (one_node_taken P w.values h.values) (λ t it. ((it, h.raw, h.items), k))
 finish_held m P kept finishes.NoItems w ps is h k = (tt, k)
-finish_held m P kept finishes.Switch w ps is h k = switch_held m P kept w ps h k
-finish_held m P kept finishes.Parameters w ps is h k = all_parameters_held m P kept w ps h k
+finish_held m P kept finishes.Switch w ps is h k =
+    made_end P (switch_of m w.held (before_default w.values) (from_default w.values)) ps
+    (switch_held_of m P kept w.held (before_default w.values) (from_default w.values) h.held (before_held P w.values h.values) (from_held P w.values h.values)) k
+finish_held m P kept finishes.Parameters w ps is h k =
+    then (λ l. Each P l.0 × P l.1) (HoldsParts P) (last_value w.values) (λ l. m kinds.FormalParameters (two (listed l.0) l.1) >>= λ t. Ok (parts.Values (one (child t)) None ∷ ps)) (last_held P w.values h.values)
+    (λ l il. made_end P (m kinds.FormalParameters (two (listed l.0) l.1)) ps (node_made m P kept kinds.FormalParameters (two (listed l.0) l.1) refl (kept.list l.0 il.0, (il.1, tt))) k)
 
 -- no row makes a kind that is lazy, or a scope that tells names
 pub row_makes : (r : RowId) → (all_made_by (recipe r).0 ≡ true) × (is_finished_by (recipe r).1 ≡ true)

@@ -1,7 +1,6 @@
 -- What the steps of a recipe gather holds what the parts hold.
 use Rattle.std.proofs.Common.{◌≡◌, Bool, true, not, ◌&&◌, List, [], ◌∷◌, ◌++◌, Option, Some, None, Result, Ok, refl}
 use Rattle.bast_base.specs.declared.errors.NameId.{NameId}
-use Rattle.bast_schema.specs.declared.kind.EnumId.{EnumId}
 use Rattle.bast_schema.specs.declared.kind.Kind.{Kind}
 use Rattle.bast_schema.specs.declared.kind.Kind.TheVariants as kinds
 use Rattle.bast_schema.specs.Counts.{join}
@@ -85,97 +84,13 @@ value_got P d w ps is h k = (with_values P w (one d) h (is, tt), k)
 pub node_got : (P : Datum → Type 0) (made : Result Tree Fault) (w : Work) (ps : List Part) → Holds (λ t. P (child t)) made → HoldsWork P w → HoldsParts P ps → Holds (Got P) (with_node made w ps)
 node_got P made w ps is h k = then (λ t. P (child t)) (Got P) made (λ t. with_value (child t) w ps) is (λ t it. value_got P (child t) w ps it h k)
 
-skip_got : (P : Datum → Type 0) (w : Work) (ps : List Part) → HoldsWork P w → HoldsParts P ps → Holds (Got P) (skip w ps)
-unfolding skip
-skip_got P w ps h k = then (HoldsParts P) (Got P) (without_top ps) (λ rest. Ok (w, rest)) (top_taken P ps k) (λ rest r. (h, r))
-
-put_got : (P : Datum → Type 0) (w : Work) (ps : List Part) → HoldsWork P w → HoldsParts P ps → Holds (Got P) (put w ps)
-unfolding put
-put_got P w ps h k =
-    then (ValuesTaken P) (Got P) (taken_values ps) (λ v. Ok (record w { values = join w.values v.0.0 }, v.1)) (values_taken P ps k) (λ v r. (with_values P w v.0.0 h r.0.0, r.1))
-
 with_raw : (P : Datum → Type 0) (w : Work) (raw : Option NameId) → HoldsWork P w → HoldsName P raw → HoldsWork P (record w { raw = raw })
 with_raw P w raw h k = record { values = h.values; held = h.held; directives = h.directives; raw = k; endings = h.endings; items = h.items }
-
-operand_got : (P : Datum → Type 0) (w : Work) (ps : List Part) → HoldsWork P w → HoldsParts P ps → Holds (Got P) (operand w ps)
-unfolding operand
-operand_got P w ps h k =
-    then (ValuesTaken P) (Got P) (taken_values ps) (λ v. Ok (record w { values = join w.values v.0.0; raw = v.0.1 }, v.1)) (values_taken P ps k)
-    (λ v r. (with_raw P (record w { values = join w.values v.0.0 }) v.0.1 (with_values P w v.0.0 h r.0.0) r.0.1, r.1))
-
-wrap_got : (m : Maker) (P : Datum → Type 0) → Kept m P → (w : Work) (ps : List Part) → HoldsWork P w → HoldsParts P ps → Holds (Got P) (wrap w ps)
-unfolding wrap
-wrap_got m P kept w ps h k =
-    then (ValuesTaken P) (Got P) (taken_values ps) (λ v. with_value (listed v.0.0) w v.1) (values_taken P ps k) (λ v r. value_got P (listed v.0.0) w v.1 (kept.list v.0.0 r.0.0) h r.1)
-
-text_got : (P : Datum → Type 0) (w : Work) (ps : List Part) → HoldsWork P w → HoldsParts P ps → Holds (Got P) (text w ps)
-unfolding text
-text_got P w ps h k =
-    then (LeafTaken P) (Got P) (taken_leaf ps) (λ l. there l.0.text >>= λ n. with_value (name n.0) w l.1) (leaf_taken P ps k)
-    (λ l r. then (λ n. P (name n.0)) (Got P) (there l.0.text) (λ n. with_value (name n.0) w l.1) (name_there P l.0.text r.0.0) (λ n s. value_got P (name n.0) w l.1 s h r.1))
-
-whole_got : (m : Maker) (P : Datum → Type 0) → Kept m P → (w : Work) (ps : List Part) → HoldsWork P w → HoldsParts P ps → Holds (Got P) (whole_number w ps)
-unfolding whole_number
-whole_got m P kept w ps h k =
-    then (LeafTaken P) (Got P) (taken_leaf ps) (λ l. number l.0.kind >>= λ n. with_value (whole n) w l.1) (leaf_taken P ps k)
-    (λ l r. then (λ n. P (whole n)) (Got P) (number l.0.kind) (λ n. with_value (whole n) w l.1) (each_result (λ n. P (whole n)) (number l.0.kind) (λ n e. kept.wholes n)) (λ n s. value_got P (whole n) w l.1 s h r.1))
-
-named_got : (m : Maker) (P : Datum → Type 0) → Kept m P → (j : Kind) → is_common j ≡ true → (w : Work) (ps : List Part) → HoldsWork P w → HoldsParts P ps → Holds (Got P) (named m j w ps)
-unfolding named
-named_got m P kept j is w ps h k =
-    then (LeafTaken P) (Got P) (taken_leaf ps) (λ l. there l.0.text >>= λ n. with_node (m j (one (name n.0))) w l.1) (leaf_taken P ps k)
-    (λ l r. then (λ n. P (name n.0)) (Got P) (there l.0.text) (λ n. with_node (m j (one (name n.0))) w l.1) (name_there P l.0.text r.0.0) (λ n s. node_got P (m j (one (name n.0))) w l.1 (name_made m P kept j n.0 is s) h r.1))
-
-quoted_got : (m : Maker) (P : Datum → Type 0) → Kept m P → (w : Work) (ps : List Part) → HoldsWork P w → HoldsParts P ps → Holds (Got P) (quoted m w ps)
-unfolding quoted
-quoted_got m P kept w ps h k =
-    then (LeafTaken P) (Got P) (taken_leaf ps) _ (leaf_taken P ps k)
-    (λ l r. then (λ n. P (name n.0)) (Got P) (there l.0.text) _ (name_there P l.0.text r.0.0)
-    (λ n s. then (λ t. P (child t)) (Got P) (m kinds.LiteralStringExpression (one (name n.0))) (λ t. Ok (record w { values = join w.values (one (child t)); raw = l.0.raw }, l.1)) (name_made m P kept kinds.LiteralStringExpression n.0 refl s)
-    (λ t it. (with_raw P (record w { values = join w.values (one (child t)) }) l.0.raw (with_values P w (one (child t)) h (it, tt)) r.0.1, r.1))))
-
-operator_got : (m : Maker) (P : Datum → Type 0) → Kept m P → (e : EnumId) (w : Work) (ps : List Part) → HoldsWork P w → HoldsParts P ps → Holds (Got P) (with_operator e w ps)
-unfolding with_operator
-operator_got m P kept e w ps h k =
-    then (LeafTaken P) (Got P) (taken_leaf ps) (λ l. there (operator e l.0.kind) >>= λ n. with_value (choice n) w l.1) (leaf_taken P ps k)
-    (λ l r. then (λ n. P (choice n)) (Got P) (there (operator e l.0.kind)) (λ n. with_value (choice n) w l.1) (each_result (λ n. P (choice n)) (there (operator e l.0.kind)) (λ n e. kept.choices n)) (λ n s. value_got P (choice n) w l.1 s h r.1))
 
 initialized : (m : Maker) (P : Datum → Type 0) → Kept m P → (b : Tree) (d : Datum) → P (child b) → P d → Holds (λ t. P (child t)) (parameter_of m b d)
 initialized m P kept b absent h k = h
 initialized m P kept b (child t) h k = node_made m P kept kinds.BindingWithInitializer (two (child b) (child t)) refl (h, (k, tt))
 initialized m P kept b _ h k = tt
-
-parameter_got : (m : Maker) (P : Datum → Type 0) → Kept m P → (w : Work) (ps : List Part) → HoldsWork P w → HoldsParts P ps → Holds (Got P) (parameter m w ps)
-unfolding parameter
-parameter_got m P kept w ps h k =
-    then (LeafTaken P) (Got P) (taken_leaf ps) _ (leaf_taken P ps k)
-    (λ l r. then (λ n. P (name n.0)) (Got P) (there l.0.text) _ (name_there P l.0.text r.0.0)
-    (λ n s. then (λ t. P (child t)) (Got P) (m kinds.BindingIdentifier (one (name n.0))) _ (name_made m P kept kinds.BindingIdentifier n.0 refl s)
-    (λ b ib. then (ValuesTaken P) (Got P) (taken_values l.1) _ (values_taken P l.1 r.1)
-    (λ v iv. then P (Got P) (one_value v.0.0) (λ d. with_node (parameter_of m b d) w v.1) (one_taken P v.0.0 iv.0.0)
-    (λ d id. node_got P (parameter_of m b d) w v.1 (initialized m P kept b d ib id) h iv.1)))))
-
-template_got : (m : Maker) (P : Datum → Type 0) → Kept m P → (w : Work) (ps : List Part) → HoldsWork P w → HoldsParts P ps → Holds (Got P) (template_part m w ps)
-unfolding template_part
-template_got m P kept w ps h k =
-    then (ValuesTaken P) (Got P) (taken_values ps) _ (values_taken P ps k)
-    (λ e ie. then P (Got P) (one_value e.0.0) _ (one_taken P e.0.0 ie.0.0)
-    (λ d id. then (ValuesTaken P) (Got P) (taken_values e.1) _ (values_taken P e.1 ie.1)
-    (λ v iv. then (λ f. P f.0 × Each P f.1) (Got P) (first_value v.0.0) _ (first_taken P v.0.0 iv.0.0)
-    (λ f jf. then (λ t. P (child t)) (Got P) (m kinds.TemplatePart (two d f.0)) (λ t. Ok (record w { values = join w.values (more (child t) f.1) }, v.1)) (node_made m P kept kinds.TemplatePart (two d f.0) refl (id, (jf.0, tt)))
-    (λ t it. (with_values P w (more (child t) f.1) h (it, jf.1), iv.1))))))
-
-tail_got : (P : Datum → Type 0) (w : Work) (ps : List Part) → HoldsWork P w → HoldsParts P ps → Holds (Got P) (tail w ps)
-unfolding tail
-tail_got P w ps h k =
-    then (EndingsTaken P) (Got P) (taken_endings ps) (λ e. Ok (record w { endings = w.endings ++ e.0 }, e.1)) (endings_taken P ps k)
-    (λ e r. (record { values = h.values; held = h.held; directives = h.directives; raw = h.raw; endings = endings_join P w.endings e.0 h.endings r.0; items = h.items }, r.1))
-
-rest_got : (P : Datum → Type 0) (w : Work) (ps : List Part) → HoldsWork P w → HoldsParts P ps → Holds (Got P) (rest w ps)
-unfolding rest
-rest_got P w ps h k =
-    then (ItemsTaken P) (Got P) (taken_items ps) (λ i. Ok (record w { items = i.0 }, i.1)) (items_taken P ps k)
-    (λ i r. (record { values = h.values; held = h.held; directives = h.directives; raw = h.raw; endings = h.endings; items = r.0 }, r.1))
 
 statements_held : (P : Datum → Type 0) (is : List Item) → HoldsItems P is → Each P (statements is)
 statements_held P [] h = tt
@@ -199,44 +114,6 @@ directives_held : (m : Maker) (P : Datum → Type 0) → Kept m P → (is : List
 directives_held m P kept [] h = tt
 directives_held m P kept (i ∷ is) h = directives_held_from m P kept i.raw (directives m is) h.1 (directives_held m P kept is h.2)
 
-statements_got : (m : Maker) (P : Datum → Type 0) → Kept m P → (w : Work) (ps : List Part) → HoldsWork P w → HoldsParts P ps → Holds (Got P) (with_statements w ps)
-unfolding with_statements
-statements_got m P kept w ps h k =
-    then (ItemsTaken P) (Got P) (taken_items ps) (λ i. with_value (listed (statements i.0)) w i.1) (items_taken P ps k)
-    (λ i r. value_got P (listed (statements i.0)) w i.1 (kept.list (statements i.0) (statements_held P i.0 r.0)) h r.1)
-
-body_got : (m : Maker) (P : Datum → Type 0) → Kept m P → (w : Work) (ps : List Part) → HoldsWork P w → HoldsParts P ps → Holds (Got P) (body m w ps)
-unfolding body
-body_got m P kept w ps h k =
-    then (ItemsTaken P) (Got P) (taken_items ps) _ (items_taken P ps k)
-    (λ i r. then (Each P) (Got P) (directives m i.0) (λ ds. Ok (record w { values = join w.values (one (listed (statements (behind_directives i.0)))); directives = ds }, i.1)) (directives_held m P kept i.0 r.0)
-    (λ ds id. (
-      record {
-        values = each_join P w.values (one (listed (statements (behind_directives i.0)))) h.values (kept.list (statements (behind_directives i.0)) (statements_held P (behind_directives i.0) (directives_behind P i.0 r.0)), tt);
-        held = h.held;
-        directives = id;
-        raw = h.raw;
-        endings = h.endings;
-        items = h.items;
-      },
-      r.1,
-    )))
-
-hold_got : (P : Datum → Type 0) (w : Work) → HoldsWork P w → HoldsWork P (hold w)
-unfolding hold
-hold_got P w h = record { values = tt; held = h.values; directives = h.directives; raw = h.raw; endings = h.endings; items = h.items }
-
-resume_got : (m : Maker) (P : Datum → Type 0) → Kept m P → (w : Work) → HoldsWork P w → HoldsWork P (resume w)
-unfolding resume
-resume_got m P kept w h = record {
-  values = each_join P w.held (more (listed w.directives) w.values) h.held (kept.list w.directives h.directives, h.values);
-  held = tt;
-  directives = tt;
-  raw = h.raw;
-  endings = h.endings;
-  items = h.items;
-}
-
 closed_got : (m : Maker) (P : Datum → Type 0) → Kept m P → (j : Kind) → is_made j ≡ true → (w : Work) → HoldsWork P w → Holds (HoldsWork P) (closed m j w)
 unfolding closed
 closed_got m P kept j is w h =
@@ -251,21 +128,61 @@ is_made_by (steps.Close k) = is_made k
 is_made_by _ = true
 
 step_got : (m : Maker) (P : Datum → Type 0) → Kept m P → (s : Step) (w : Work) (ps : List Part) → is_made_by s ≡ true → HoldsWork P w → HoldsParts P ps → Holds (Got P) (step_on m s w ps)
-step_got m P kept steps.Skip w ps is h k = skip_got P w ps h k
-step_got m P kept steps.Put w ps is h k = put_got P w ps h k
-step_got m P kept steps.Operand w ps is h k = operand_got P w ps h k
-step_got m P kept steps.Wrap w ps is h k = wrap_got m P kept w ps h k
-step_got m P kept steps.Text w ps is h k = text_got P w ps h k
-step_got m P kept steps.Whole w ps is h k = whole_got m P kept w ps h k
-step_got m P kept (steps.Named j) w ps is h k = named_got m P kept j is w ps h k
-step_got m P kept steps.Quoted w ps is h k = quoted_got m P kept w ps h k
-step_got m P kept (steps.Operator e) w ps is h k = operator_got m P kept e w ps h k
-step_got m P kept steps.Parameter w ps is h k = parameter_got m P kept w ps h k
-step_got m P kept steps.TemplatePart w ps is h k = template_got m P kept w ps h k
-step_got m P kept steps.Tail w ps is h k = tail_got P w ps h k
-step_got m P kept steps.Rest w ps is h k = rest_got P w ps h k
-step_got m P kept steps.Statements w ps is h k = statements_got m P kept w ps h k
-step_got m P kept steps.Body w ps is h k = body_got m P kept w ps h k
+unfolding skip put operand wrap text whole_number named quoted with_operator parameter template_part tail rest with_statements body hold resume
+step_got m P kept steps.Skip w ps is h k = then (HoldsParts P) (Got P) (without_top ps) (λ rest. Ok (w, rest)) (top_taken P ps k) (λ rest r. (h, r))
+step_got m P kept steps.Put w ps is h k =
+    then (ValuesTaken P) (Got P) (taken_values ps) (λ v. Ok (record w { values = join w.values v.0.0 }, v.1)) (values_taken P ps k) (λ v r. (with_values P w v.0.0 h r.0.0, r.1))
+step_got m P kept steps.Operand w ps is h k =
+    then (ValuesTaken P) (Got P) (taken_values ps) (λ v. Ok (record w { values = join w.values v.0.0; raw = v.0.1 }, v.1)) (values_taken P ps k)
+    (λ v r. (with_raw P (record w { values = join w.values v.0.0 }) v.0.1 (with_values P w v.0.0 h r.0.0) r.0.1, r.1))
+step_got m P kept steps.Wrap w ps is h k =
+    then (ValuesTaken P) (Got P) (taken_values ps) (λ v. with_value (listed v.0.0) w v.1) (values_taken P ps k) (λ v r. value_got P (listed v.0.0) w v.1 (kept.list v.0.0 r.0.0) h r.1)
+step_got m P kept steps.Text w ps is h k =
+    then (LeafTaken P) (Got P) (taken_leaf ps) (λ l. there l.0.text >>= λ n. with_value (name n.0) w l.1) (leaf_taken P ps k)
+    (λ l r. then (λ n. P (name n.0)) (Got P) (there l.0.text) (λ n. with_value (name n.0) w l.1) (name_there P l.0.text r.0.0) (λ n s. value_got P (name n.0) w l.1 s h r.1))
+step_got m P kept steps.Whole w ps is h k =
+    then (LeafTaken P) (Got P) (taken_leaf ps) (λ l. number l.0.kind >>= λ n. with_value (whole n) w l.1) (leaf_taken P ps k)
+    (λ l r. then (λ n. P (whole n)) (Got P) (number l.0.kind) (λ n. with_value (whole n) w l.1) (each_result (λ n. P (whole n)) (number l.0.kind) (λ n e. kept.wholes n)) (λ n s. value_got P (whole n) w l.1 s h r.1))
+step_got m P kept (steps.Named j) w ps is h k =
+    then (LeafTaken P) (Got P) (taken_leaf ps) (λ l. there l.0.text >>= λ n. with_node (m j (one (name n.0))) w l.1) (leaf_taken P ps k)
+    (λ l r. then (λ n. P (name n.0)) (Got P) (there l.0.text) (λ n. with_node (m j (one (name n.0))) w l.1) (name_there P l.0.text r.0.0) (λ n s. node_got P (m j (one (name n.0))) w l.1 (name_made m P kept j n.0 is s) h r.1))
+step_got m P kept steps.Quoted w ps is h k =
+    then (LeafTaken P) (Got P) (taken_leaf ps) _ (leaf_taken P ps k)
+    (λ l r. then (λ n. P (name n.0)) (Got P) (there l.0.text) _ (name_there P l.0.text r.0.0)
+    (λ n s. then (λ t. P (child t)) (Got P) (m kinds.LiteralStringExpression (one (name n.0))) (λ t. Ok (record w { values = join w.values (one (child t)); raw = l.0.raw }, l.1)) (name_made m P kept kinds.LiteralStringExpression n.0 refl s)
+    (λ t it. (with_raw P (record w { values = join w.values (one (child t)) }) l.0.raw (with_values P w (one (child t)) h (it, tt)) r.0.1, r.1))))
+step_got m P kept (steps.Operator e) w ps is h k =
+    then (LeafTaken P) (Got P) (taken_leaf ps) (λ l. there (operator e l.0.kind) >>= λ n. with_value (choice n) w l.1) (leaf_taken P ps k)
+    (λ l r. then (λ n. P (choice n)) (Got P) (there (operator e l.0.kind)) (λ n. with_value (choice n) w l.1) (each_result (λ n. P (choice n)) (there (operator e l.0.kind)) (λ n e. kept.choices n)) (λ n s. value_got P (choice n) w l.1 s h r.1))
+step_got m P kept steps.Parameter w ps is h k =
+    then (LeafTaken P) (Got P) (taken_leaf ps) _ (leaf_taken P ps k)
+    (λ l r. then (λ n. P (name n.0)) (Got P) (there l.0.text) _ (name_there P l.0.text r.0.0)
+    (λ n s. then (λ t. P (child t)) (Got P) (m kinds.BindingIdentifier (one (name n.0))) _ (name_made m P kept kinds.BindingIdentifier n.0 refl s)
+    (λ b ib. then (ValuesTaken P) (Got P) (taken_values l.1) _ (values_taken P l.1 r.1)
+    (λ v iv. then P (Got P) (one_value v.0.0) (λ d. with_node (parameter_of m b d) w v.1) (one_taken P v.0.0 iv.0.0)
+    (λ d id. node_got P (parameter_of m b d) w v.1 (initialized m P kept b d ib id) h iv.1)))))
+step_got m P kept steps.TemplatePart w ps is h k =
+    then (ValuesTaken P) (Got P) (taken_values ps) _ (values_taken P ps k)
+    (λ e ie. then P (Got P) (one_value e.0.0) _ (one_taken P e.0.0 ie.0.0)
+    (λ d id. then (ValuesTaken P) (Got P) (taken_values e.1) _ (values_taken P e.1 ie.1)
+    (λ v iv. then (λ f. P f.0 × Each P f.1) (Got P) (first_value v.0.0) _ (first_taken P v.0.0 iv.0.0)
+    (λ f jf. then (λ t. P (child t)) (Got P) (m kinds.TemplatePart (two d f.0)) (λ t. Ok (record w { values = join w.values (more (child t) f.1) }, v.1)) (node_made m P kept kinds.TemplatePart (two d f.0) refl (id, (jf.0, tt)))
+    (λ t it. (with_values P w (more (child t) f.1) h (it, jf.1), iv.1))))))
+step_got m P kept steps.Tail w ps is h k =
+    then (EndingsTaken P) (Got P) (taken_endings ps) (λ e. Ok (record w { endings = w.endings ++ e.0 }, e.1)) (endings_taken P ps k)
+    (λ e r. (record { values = h.values; held = h.held; directives = h.directives; raw = h.raw; endings = endings_join P w.endings e.0 h.endings r.0; items = h.items }, r.1))
+step_got m P kept steps.Rest w ps is h k =
+    then (ItemsTaken P) (Got P) (taken_items ps) (λ i. Ok (record w { items = i.0 }, i.1)) (items_taken P ps k)
+    (λ i r. (record { values = h.values; held = h.held; directives = h.directives; raw = h.raw; endings = h.endings; items = r.0 }, r.1))
+step_got m P kept steps.Statements w ps is h k =
+    then (ItemsTaken P) (Got P) (taken_items ps) (λ i. with_value (listed (statements i.0)) w i.1) (items_taken P ps k)
+    (λ i r. value_got P (listed (statements i.0)) w i.1 (kept.list (statements i.0) (statements_held P i.0 r.0)) h r.1)
+step_got m P kept steps.Body w ps is h k =
+    then (ItemsTaken P) (Got P) (taken_items ps) _ (items_taken P ps k)
+    (λ i r. then (Each P) (Got P) (directives m i.0) (λ ds. Ok (record w { values = join w.values (one (listed (statements (behind_directives i.0)))); directives = ds }, i.1)) (directives_held m P kept i.0 r.0)
+    (λ ds id. let all = kept.list (statements (behind_directives i.0)) (statements_held P (behind_directives i.0) (directives_behind P i.0 r.0))
+    in let values = each_join P w.values (one (listed (statements (behind_directives i.0)))) h.values (all, tt)
+    in (record { values = values; held = h.held; directives = id; raw = h.raw; endings = h.endings; items = h.items }, r.1)))
 step_got m P kept steps.Absent w ps is h k = value_got P absent w ps kept.no_node h k
 step_got m P kept steps.NoLabel w ps is h k = value_got P no_name w ps kept.no_label h k
 step_got m P kept steps.NoItems w ps is h k = value_got P (listed none) w ps (kept.list none tt) h k
@@ -273,8 +190,10 @@ step_got m P kept (steps.Flag b) w ps is h k = value_got P (flag b) w ps (kept.f
 step_got m P kept (steps.Choice n) w ps is h k = value_got P (choice n) w ps (kept.choices n) h k
 step_got m P kept (steps.Scope j) w ps is h k = let b = both (not (has_lazy j)) (has_one_flag (shape_of j)) is in node_got P (m j no_names) w ps (scope_made m P kept j (is_not (has_lazy j) b.0) b.1) h k
 step_got m P kept steps.ParameterScope w ps is h k = node_got P (m kinds.AssertedParameterScope no_parameter_names) w ps (parameter_scope_made m P kept) h k
-step_got m P kept steps.Hold w ps is h k = (hold_got P w h, k)
-step_got m P kept steps.Resume w ps is h k = (resume_got m P kept w h, k)
+step_got m P kept steps.Hold w ps is h k = (record { values = tt; held = h.values; directives = h.directives; raw = h.raw; endings = h.endings; items = h.items }, k)
+step_got m P kept steps.Resume w ps is h k =
+    let all = each_join P w.held (more (listed w.directives) w.values) h.held (kept.list w.directives h.directives, h.values)
+    in (record { values = all; held = tt; directives = tt; raw = h.raw; endings = h.endings; items = h.items }, k)
 step_got m P kept (steps.Close j) w ps is h k = then (HoldsWork P) (Got P) (closed m j w) (λ x. Ok (x, ps)) (closed_got m P kept j is w h) (λ x ix. (ix, k))
 
 abbrev pub all_made_by : List Step → Bool

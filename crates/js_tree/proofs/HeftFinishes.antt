@@ -107,34 +107,14 @@ folds_left m sized w ps n le =
     (then (TreeOf (size_in w.values)) (PartsLeft n) (one_node w.values) (λ t. folded m w.endings t >>= λ t. Ok (parts.Values (one (child t)) None ∷ ps)) (one_node_left w.values)
     (λ t it. made_end (folded m w.endings t) ps (heft_endings w.endings + size_in w.values) n (folded_size m sized w.endings t (heft_endings w.endings + size_in w.values) (omega (arith, it))) (omega arith)))
 
-statement_left : (m : Maker) → Sized m → (w : Work) (ps : List Part) (n : ℕ) → heft_work w + heft_parts ps + 1 ≤ n → Holds (PartsLeft n) (statement m w ps)
-unfolding statement
-statement_left m sized w ps n le =
-    either (PartsLeft n) (length w.endings == 0) (m kinds.ExpressionStatement w.values >>= λ t. Ok (parts.Values (one (child t)) w.raw ∷ ps)) (folds m w ps)
-    (then (TreeOf (1 + size_in w.values)) (PartsLeft n) (m kinds.ExpressionStatement w.values) (λ t. Ok (parts.Values (one (child t)) w.raw ∷ ps)) (node_made m sized kinds.ExpressionStatement w.values (1 + size_in w.values) (omega arith)) (λ t it. omega (arith, it)))
-    (folds_left m sized w ps n (omega arith))
-
 shorthand_size : (m : Maker) → Sized m → (ds : Data) → Holds (TreeOf (2 + size_in ds)) (shorthand m ds)
 shorthand_size m sized ds =
     then (TreeOf (1 + size_in ds)) (TreeOf (2 + size_in ds)) (m kinds.IdentifierExpression ds) (λ t. m kinds.ShorthandProperty (one (child t))) (node_made m sized kinds.IdentifierExpression ds (1 + size_in ds) (omega arith))
     (λ t it. node_made m sized kinds.ShorthandProperty (one (child t)) (2 + size_in ds) (omega (arith, it)))
 
-property_left : (m : Maker) → Sized m → (w : Work) (ps : List Part) (n : ℕ) → heft_work w + heft_parts ps + 2 ≤ n → Holds (PartsLeft n) (property m w ps)
-unfolding property
-property_left m sized w ps n le =
-    either (PartsLeft n) (length w.endings == 0) _ _ (made_end (shorthand m w.values) ps (2 + size_in w.values) n (shorthand_size m sized w.values) (omega arith))
-    (then (TreeOf (1 + size_in w.values)) (PartsLeft n) (m kinds.LiteralPropertyName w.values) (λ t. folded m w.endings t >>= λ t. Ok (parts.Values (one (child t)) None ∷ ps)) (node_made m sized kinds.LiteralPropertyName w.values (1 + size_in w.values) (omega arith))
-    (λ t it. made_end (folded m w.endings t) ps (heft_endings w.endings + 1 + size_in w.values) n (folded_size m sized w.endings t (heft_endings w.endings + 1 + size_in w.values) (omega (arith, it))) (omega arith)))
-
 filled_left : (e : Ending) (d : Datum) (ps : List Part) (n : ℕ) → heft_ending e + size_at d + heft_parts ps ≤ n → Holds (PartsLeft n) (filled e d ps)
 filled_left (endings.Around j form before behind) d ps n le = omega (arith, size_join before (more d behind))
 filled_left (endings.Instead t) d ps n le = tt
-
-fills_left : (w : Work) (ps : List Part) (n : ℕ) → heft_work w + heft_parts ps ≤ n → Holds (PartsLeft n) (fills w ps)
-unfolding fills
-fills_left w ps n le =
-    then (λ d. size_at d ≤ size_in w.values) (PartsLeft n) (one_value w.values) (λ d. one_ending w.endings >>= λ e. filled e d ps) (one_left w.values)
-    (λ d id. then (λ e. heft_ending e ≤ heft_endings w.endings) (PartsLeft n) (one_ending w.endings) (λ e. filled e d ps) (one_ending_left w.endings) (λ e ie. filled_left e d ps n (omega (arith, id, ie))))
 
 declaration_size : (m : Maker) → Sized m → (how : Declared) (ds : Data) → Holds (TreeOf (3 + size_in ds)) (declaration m how ds)
 declaration_size m sized declared.Var ds = node_made m sized kinds.VarDeclaration (one (listed ds)) (3 + size_in ds) (omega arith)
@@ -156,42 +136,9 @@ bound_left m sized how b (endings.Around j form before behind) ps n le =
     (λ t it. omega (arith, it, size_join before (more (child t) behind)))
 bound_left m sized how b (endings.Instead t) ps n le = tt
 
-binds_left : (m : Maker) → Sized m → (how : Declared) (w : Work) (ps : List Part) (n : ℕ) → heft_work w + heft_parts ps + 4 ≤ n → Holds (PartsLeft n) (binds m how w ps)
-unfolding binds
-binds_left m sized how w ps n le =
-    then (λ d. size_at d ≤ size_in w.values) (PartsLeft n) (one_value w.values) (λ d. one_ending w.endings >>= λ e. bound m how d e ps) (one_left w.values)
-    (λ d id. then (λ e. heft_ending e ≤ heft_endings w.endings) (PartsLeft n) (one_ending w.endings) (λ e. bound m how d e ps) (one_ending_left w.endings) (λ e ie. bound_left m sized how d e ps n (omega (arith, id, ie))))
-
 declaring_left : (ds : Data) (e : Ending) (ps : List Part) (n : ℕ) → size_in ds + heft_ending e + heft_parts ps ≤ n → Holds (PartsLeft n) (declaring ds e ps)
 declaring_left ds (endings.Around j form before behind) ps n le = omega arith
 declaring_left ds (endings.Instead t) ps n le = tt
-
-declares_left : (w : Work) (ps : List Part) (n : ℕ) → heft_work w + heft_parts ps ≤ n → Holds (PartsLeft n) (declares w ps)
-unfolding declares
-declares_left w ps n le = then (λ e. heft_ending e ≤ heft_endings w.endings) (PartsLeft n) (one_ending w.endings) (λ e. declaring w.values e ps) (one_ending_left w.endings) (λ e ie. declaring_left w.values e ps n (omega (arith, ie)))
-
-arrow_left : (w : Work) (ps : List Part) (n : ℕ) → heft_work w + heft_parts ps + 13 ≤ n → Holds (PartsLeft n) (arrow_body w ps)
-unfolding arrow_body
-arrow_left w ps n le = omega arith
-
-tries_left : (w : Work) (ps : List Part) (n : ℕ) → heft_work w + heft_parts ps + 1 ≤ n → Holds (PartsLeft n) (tries w ps)
-unfolding tries
-tries_left w ps n le = omega arith
-
-sequence_left : (m : Maker) → Sized m → (w : Work) (ps : List Part) (n : ℕ) → heft_work w + heft_parts ps + 2 ≤ n → Holds (PartsLeft n) (sequence m w ps)
-unfolding sequence
-sequence_left m sized w ps n le =
-    either (PartsLeft n) (is_none w.values) (Ok (parts.Values w.held w.raw ∷ ps)) _ (omega arith)
-    (made_end (m kinds.SequenceExpression (join w.held (one (listed w.values)))) ps (2 + size_in w.held + size_in w.values) n
-    (node_made m sized kinds.SequenceExpression (join w.held (one (listed w.values))) (2 + size_in w.held + size_in w.values) (omega (arith, size_join w.held (one (listed w.values))))) (omega arith))
-
-instead_left : (w : Work) (ps : List Part) (n : ℕ) → heft_work w + heft_parts ps ≤ n → Holds (PartsLeft n) (instead w ps)
-unfolding instead
-instead_left w ps n le = then (TreeOf (size_in w.values)) (PartsLeft n) (one_node w.values) (λ t. Ok (parts.Endings (endings.Instead t ∷ []) ∷ ps)) (one_node_left w.values) (λ t it. omega (arith, it))
-
-item_left : (w : Work) (ps : List Part) (n : ℕ) → heft_work w + heft_parts ps + 1 ≤ n → Holds (PartsLeft n) (add_item w ps)
-unfolding add_item
-item_left w ps n le = then (TreeOf (size_in w.values)) (PartsLeft n) (one_node w.values) (λ t. Ok (parts.Items (record { statement = t; raw = w.raw } ∷ w.items) ∷ ps)) (one_node_left w.values) (λ t it. omega (arith, it))
 
 cases_by : (b : Bool) (d : Datum) (ds before from : Data) → size_in before + size_in from ≤ size_in ds → size_in (cond b none (more d before)) + size_in (cond b (more d ds) from) ≤ size_at d + size_in ds
 cases_by true d ds before from le = omega arith
@@ -206,12 +153,6 @@ switch_size m sized held before none n le = node_made m sized kinds.SwitchStatem
 switch_size m sized held before (more d behind) n le =
     node_made m sized kinds.SwitchStatementWithDefault (join held (more (listed before) (two d (listed behind)))) n (omega (arith, size_join held (more (listed before) (two d (listed behind)))))
 
-switch_left : (m : Maker) → Sized m → (w : Work) (ps : List Part) (n : ℕ) → heft_work w + heft_parts ps + 3 ≤ n → Holds (PartsLeft n) (switch m w ps)
-unfolding switch
-switch_left m sized w ps n le =
-    made_end (switch_of m w.held (before_default w.values) (from_default w.values)) ps (3 + size_in w.held + size_in w.values) n
-    (switch_size m sized w.held (before_default w.values) (from_default w.values) (3 + size_in w.held + size_in w.values) (omega (arith, cases_left w.values))) (omega arith)
-
 behind_left : (d : Datum) (ds : Data) → size_in (last_behind d ds).0 + size_at (last_behind d ds).1 ≡ size_at d + size_in ds
 behind_left d none = omega arith
 behind_left d (more e es) = omega (arith, behind_left e es)
@@ -219,12 +160,6 @@ behind_left d (more e es) = omega (arith, behind_left e es)
 last_left : (ds : Data) → Holds (λ l. size_in l.0 + size_at l.1 ≤ size_in ds) (last_value ds)
 last_left none = tt
 last_left (more d ds) = omega (arith, behind_left d ds)
-
-parameters_left : (m : Maker) → Sized m → (w : Work) (ps : List Part) (n : ℕ) → heft_work w + heft_parts ps + 2 ≤ n → Holds (PartsLeft n) (parameters m w ps)
-unfolding parameters
-parameters_left m sized w ps n le =
-    then (λ l. size_in l.0 + size_at l.1 ≤ size_in w.values) (PartsLeft n) (last_value w.values) (λ l. m kinds.FormalParameters (two (listed l.0) l.1) >>= λ t. Ok (parts.Values (one (child t)) None ∷ ps)) (last_left w.values)
-    (λ l il. made_end (m kinds.FormalParameters (two (listed l.0) l.1)) ps (2 + size_in w.values) n (node_made m sized kinds.FormalParameters (two (listed l.0) l.1) (2 + size_in w.values) (omega (arith, il))) (omega arith))
 
 -- how many values a row's own part has beyond those that were gathered
 abbrev pub finish_cost : Finish → ℕ
@@ -243,6 +178,7 @@ finish_cost finishes.Parameters = 2
 finish_cost _ = 0
 
 finish_left : (m : Maker) → Sized m → (f : Finish) (w : Work) (ps : List Part) (n : ℕ) → heft_work w + heft_parts ps + finish_cost f ≤ n → Holds (PartsLeft n) (finish_on m f w ps)
+unfolding fills binds declares arrow_body tries sequence statement property instead add_item switch parameters
 finish_left m sized finishes.Same w ps n le = omega arith
 finish_left m sized finishes.Values w ps n le = omega arith
 finish_left m sized finishes.Folds w ps n le = folds_left m sized w ps n (omega arith)
@@ -250,19 +186,39 @@ finish_left m sized (finishes.Ends j) w ps n le = omega arith
 finish_left m sized (finishes.EndsParameters j) w ps n le = omega arith
 finish_left m sized (finishes.EndsLabel j) w ps n le = omega arith
 finish_left m sized finishes.Endings w ps n le = omega arith
-finish_left m sized finishes.Fills w ps n le = fills_left w ps n (omega arith)
-finish_left m sized (finishes.Binds how) w ps n le = binds_left m sized how w ps n le
-finish_left m sized finishes.Declares w ps n le = declares_left w ps n (omega arith)
-finish_left m sized finishes.ArrowBody w ps n le = arrow_left w ps n le
-finish_left m sized finishes.Tries w ps n le = tries_left w ps n le
-finish_left m sized finishes.Sequence w ps n le = sequence_left m sized w ps n le
-finish_left m sized finishes.Statement w ps n le = statement_left m sized w ps n le
-finish_left m sized finishes.Property w ps n le = property_left m sized w ps n le
-finish_left m sized finishes.Instead w ps n le = instead_left w ps n (omega arith)
-finish_left m sized finishes.Items w ps n le = item_left w ps n le
+finish_left m sized finishes.Fills w ps n le =
+    then (λ d. size_at d ≤ size_in w.values) (PartsLeft n) (one_value w.values) (λ d. one_ending w.endings >>= λ e. filled e d ps) (one_left w.values)
+    (λ d id. then (λ e. heft_ending e ≤ heft_endings w.endings) (PartsLeft n) (one_ending w.endings) (λ e. filled e d ps) (one_ending_left w.endings) (λ e ie. filled_left e d ps n (omega (arith, id, ie))))
+finish_left m sized (finishes.Binds how) w ps n le =
+    then (λ d. size_at d ≤ size_in w.values) (PartsLeft n) (one_value w.values) (λ d. one_ending w.endings >>= λ e. bound m how d e ps) (one_left w.values)
+    (λ d id. then (λ e. heft_ending e ≤ heft_endings w.endings) (PartsLeft n) (one_ending w.endings) (λ e. bound m how d e ps) (one_ending_left w.endings) (λ e ie. bound_left m sized how d e ps n (omega (arith, id, ie))))
+finish_left m sized finishes.Declares w ps n le =
+    then (λ e. heft_ending e ≤ heft_endings w.endings) (PartsLeft n) (one_ending w.endings) (λ e. declaring w.values e ps) (one_ending_left w.endings) (λ e ie. declaring_left w.values e ps n (omega (arith, ie)))
+finish_left m sized finishes.ArrowBody w ps n le = omega arith
+finish_left m sized finishes.Tries w ps n le = omega arith
+finish_left m sized finishes.Sequence w ps n le =
+    either (PartsLeft n) (is_none w.values) (Ok (parts.Values w.held w.raw ∷ ps)) _ (omega arith)
+    (made_end (m kinds.SequenceExpression (join w.held (one (listed w.values)))) ps (2 + size_in w.held + size_in w.values) n
+    (node_made m sized kinds.SequenceExpression (join w.held (one (listed w.values))) (2 + size_in w.held + size_in w.values) (omega (arith, size_join w.held (one (listed w.values))))) (omega arith))
+finish_left m sized finishes.Statement w ps n le =
+    either (PartsLeft n) (length w.endings == 0) (m kinds.ExpressionStatement w.values >>= λ t. Ok (parts.Values (one (child t)) w.raw ∷ ps)) (folds m w ps)
+    (then (TreeOf (1 + size_in w.values)) (PartsLeft n) (m kinds.ExpressionStatement w.values) (λ t. Ok (parts.Values (one (child t)) w.raw ∷ ps)) (node_made m sized kinds.ExpressionStatement w.values (1 + size_in w.values) (omega arith)) (λ t it. omega (arith, it)))
+    (folds_left m sized w ps n (omega arith))
+finish_left m sized finishes.Property w ps n le =
+    either (PartsLeft n) (length w.endings == 0) _ _ (made_end (shorthand m w.values) ps (2 + size_in w.values) n (shorthand_size m sized w.values) (omega arith))
+    (then (TreeOf (1 + size_in w.values)) (PartsLeft n) (m kinds.LiteralPropertyName w.values) (λ t. folded m w.endings t >>= λ t. Ok (parts.Values (one (child t)) None ∷ ps)) (node_made m sized kinds.LiteralPropertyName w.values (1 + size_in w.values) (omega arith))
+    (λ t it. made_end (folded m w.endings t) ps (heft_endings w.endings + 1 + size_in w.values) n (folded_size m sized w.endings t (heft_endings w.endings + 1 + size_in w.values) (omega (arith, it))) (omega arith)))
+finish_left m sized finishes.Instead w ps n le =
+    then (TreeOf (size_in w.values)) (PartsLeft n) (one_node w.values) (λ t. Ok (parts.Endings (endings.Instead t ∷ []) ∷ ps)) (one_node_left w.values) (λ t it. omega (arith, it))
+finish_left m sized finishes.Items w ps n le =
+    then (TreeOf (size_in w.values)) (PartsLeft n) (one_node w.values) (λ t. Ok (parts.Items (record { statement = t; raw = w.raw } ∷ w.items) ∷ ps)) (one_node_left w.values) (λ t it. omega (arith, it))
 finish_left m sized finishes.NoItems w ps n le = omega arith
-finish_left m sized finishes.Switch w ps n le = switch_left m sized w ps n le
-finish_left m sized finishes.Parameters w ps n le = parameters_left m sized w ps n le
+finish_left m sized finishes.Switch w ps n le =
+    made_end (switch_of m w.held (before_default w.values) (from_default w.values)) ps (3 + size_in w.held + size_in w.values) n
+    (switch_size m sized w.held (before_default w.values) (from_default w.values) (3 + size_in w.held + size_in w.values) (omega (arith, cases_left w.values))) (omega arith)
+finish_left m sized finishes.Parameters w ps n le =
+    then (λ l. size_in l.0 + size_at l.1 ≤ size_in w.values) (PartsLeft n) (last_value w.values) (λ l. m kinds.FormalParameters (two (listed l.0) l.1) >>= λ t. Ok (parts.Values (one (child t)) None ∷ ps)) (last_left w.values)
+    (λ l il. made_end (m kinds.FormalParameters (two (listed l.0) l.1)) ps (2 + size_in w.values) n (node_made m sized kinds.FormalParameters (two (listed l.0) l.1) (2 + size_in w.values) (omega (arith, il))) (omega arith))
 
 abbrev pub row_cost : RowId → ℕ
 row_cost r = steps_cost (recipe r).0 + finish_cost (recipe r).1

@@ -1,7 +1,6 @@
 -- How many values a row adds to those of its symbols' parts.
 use Rattle.std.proofs.Common.{◌≡◌, ◌≤◌, ◌+◌, ℕ, List, [], ◌∷◌, ◌++◌, Option, Some, None, Result, Ok, Err, refl, arith}
 use Rattle.bast_base.specs.declared.errors.NameId.{NameId}
-use Rattle.bast_schema.specs.declared.kind.EnumId.{EnumId}
 use Rattle.bast_schema.specs.declared.kind.Kind.{Kind}
 use Rattle.bast_schema.specs.declared.kind.Kind.TheVariants as kinds
 use Rattle.bast_schema.specs.Counts.{join, size, size_at, size_in}
@@ -143,99 +142,14 @@ value_got d w ps n le = omega (arith, size_join w.values (one d))
 node_got : (made : Result Tree Fault) (w : Work) (ps : List Part) (k n : ℕ) → Holds (TreeOf k) made → heft_work w + k + heft_parts ps ≤ n → Holds (Got n) (with_node made w ps)
 node_got made w ps k n h le = then (TreeOf k) (Got n) made (λ t. with_value (child t) w ps) h (λ t it. value_got (child t) w ps n (omega (arith, it)))
 
-skip_got : (w : Work) (ps : List Part) (n : ℕ) → heft_work w + heft_parts ps ≤ n → Holds (Got n) (skip w ps)
-unfolding skip
-skip_got w ps n le = then (PartsLeft (heft_parts ps)) (Got n) (without_top ps) (λ rest. Ok (w, rest)) (top_left ps) (λ rest r. omega arith)
-
-put_got : (w : Work) (ps : List Part) (n : ℕ) → heft_work w + heft_parts ps ≤ n → Holds (Got n) (put w ps)
-unfolding put
-put_got w ps n le =
-    then (ValuesLeft (heft_parts ps)) (Got n) (taken_values ps) (λ v. Ok (record w { values = join w.values v.0.0 }, v.1)) (values_left ps) (λ v r. omega (arith, size_join w.values v.0.0))
-
-operand_got : (w : Work) (ps : List Part) (n : ℕ) → heft_work w + heft_parts ps ≤ n → Holds (Got n) (operand w ps)
-unfolding operand
-operand_got w ps n le =
-    then (ValuesLeft (heft_parts ps)) (Got n) (taken_values ps) (λ v. Ok (record w { values = join w.values v.0.0; raw = v.0.1 }, v.1)) (values_left ps) (λ v r. omega (arith, size_join w.values v.0.0))
-
-wrap_got : (w : Work) (ps : List Part) (n : ℕ) → heft_work w + heft_parts ps + 1 ≤ n → Holds (Got n) (wrap w ps)
-unfolding wrap
-wrap_got w ps n le = then (ValuesLeft (heft_parts ps)) (Got n) (taken_values ps) (λ v. with_value (listed v.0.0) w v.1) (values_left ps) (λ v r. value_got (listed v.0.0) w v.1 n (omega arith))
-
-text_got : (w : Work) (ps : List Part) (n : ℕ) → heft_work w + heft_parts ps + 1 ≤ n → Holds (Got n) (text w ps)
-unfolding text
-text_got w ps n le =
-    then (LeafLeft (heft_parts ps)) (Got n) (taken_leaf ps) (λ l. there l.0.text >>= λ x. with_value (name x.0) w l.1) (leaf_left ps)
-    (λ l r. then (λ x. Unit {0}) (Got n) (there l.0.text) (λ x. with_value (name x.0) w l.1) (any (there l.0.text)) (λ x u. value_got (name x.0) w l.1 n (omega (arith, r))))
-
-whole_got : (w : Work) (ps : List Part) (n : ℕ) → heft_work w + heft_parts ps + 1 ≤ n → Holds (Got n) (whole_number w ps)
-unfolding whole_number
-whole_got w ps n le =
-    then (LeafLeft (heft_parts ps)) (Got n) (taken_leaf ps) (λ l. number l.0.kind >>= λ x. with_value (whole x) w l.1) (leaf_left ps)
-    (λ l r. then (λ x. Unit {0}) (Got n) (number l.0.kind) (λ x. with_value (whole x) w l.1) (any (number l.0.kind)) (λ x u. value_got (whole x) w l.1 n (omega (arith, r))))
-
-named_got : (m : Maker) → Sized m → (j : Kind) (w : Work) (ps : List Part) (n : ℕ) → heft_work w + heft_parts ps + 2 ≤ n → Holds (Got n) (named m j w ps)
-unfolding named
-named_got m sized j w ps n le =
-    then (LeafLeft (heft_parts ps)) (Got n) (taken_leaf ps) (λ l. there l.0.text >>= λ x. with_node (m j (one (name x.0))) w l.1) (leaf_left ps)
-    (λ l r. then (λ x. Unit {0}) (Got n) (there l.0.text) (λ x. with_node (m j (one (name x.0))) w l.1) (any (there l.0.text))
-    (λ x u. node_got (m j (one (name x.0))) w l.1 2 n (node_made m sized j (one (name x.0)) 2 (omega arith)) (omega (arith, r))))
-
-quoted_got : (m : Maker) → Sized m → (w : Work) (ps : List Part) (n : ℕ) → heft_work w + heft_parts ps + 2 ≤ n → Holds (Got n) (quoted m w ps)
-unfolding quoted
-quoted_got m sized w ps n le =
-    then (LeafLeft (heft_parts ps)) (Got n) (taken_leaf ps) _ (leaf_left ps)
-    (λ l r. then (λ x. Unit {0}) (Got n) (there l.0.text) _ (any (there l.0.text))
-    (λ x u. then (TreeOf 2) (Got n) (m kinds.LiteralStringExpression (one (name x.0))) (λ t. Ok (record w { values = join w.values (one (child t)); raw = l.0.raw }, l.1)) (node_made m sized kinds.LiteralStringExpression (one (name x.0)) 2 (omega arith))
-    (λ t it. omega (arith, r, it, size_join w.values (one (child t))))))
-
-operator_got : (e : EnumId) (w : Work) (ps : List Part) (n : ℕ) → heft_work w + heft_parts ps + 1 ≤ n → Holds (Got n) (with_operator e w ps)
-unfolding with_operator
-operator_got e w ps n le =
-    then (LeafLeft (heft_parts ps)) (Got n) (taken_leaf ps) (λ l. there (operator e l.0.kind) >>= λ x. with_value (choice x) w l.1) (leaf_left ps)
-    (λ l r. then (λ x. Unit {0}) (Got n) (there (operator e l.0.kind)) (λ x. with_value (choice x) w l.1) (any (there (operator e l.0.kind))) (λ x u. value_got (choice x) w l.1 n (omega (arith, r))))
-
 initialized : (m : Maker) → Sized m → (b : Tree) (d : Datum) (n : ℕ) → size b + size_at d + 1 ≤ n → Holds (TreeOf n) (parameter_of m b d)
 initialized m sized b absent n le = omega arith
 initialized m sized b (child t) n le = node_made m sized kinds.BindingWithInitializer (two (child b) (child t)) n (omega arith)
 initialized m sized b _ n le = tt
 
-parameter_got : (m : Maker) → Sized m → (w : Work) (ps : List Part) (n : ℕ) → heft_work w + heft_parts ps + 3 ≤ n → Holds (Got n) (parameter m w ps)
-unfolding parameter
-parameter_got m sized w ps n le =
-    then (LeafLeft (heft_parts ps)) (Got n) (taken_leaf ps) _ (leaf_left ps)
-    (λ l r. then (λ x. Unit {0}) (Got n) (there l.0.text) _ (any (there l.0.text))
-    (λ x u. then (TreeOf 2) (Got n) (m kinds.BindingIdentifier (one (name x.0))) _ (node_made m sized kinds.BindingIdentifier (one (name x.0)) 2 (omega arith))
-    (λ b ib. then (ValuesLeft (heft_parts l.1)) (Got n) (taken_values l.1) _ (values_left l.1)
-    (λ v iv. then (λ d. size_at d ≤ size_in v.0.0) (Got n) (one_value v.0.0) (λ d. with_node (parameter_of m b d) w v.1) (one_left v.0.0)
-    (λ d id. node_got (parameter_of m b d) w v.1 (3 + size_at d) n (initialized m sized b d (3 + size_at d) (omega (arith, ib))) (omega (arith, r, iv, id)))))))
-
-template_got : (m : Maker) → Sized m → (w : Work) (ps : List Part) (n : ℕ) → heft_work w + heft_parts ps + 1 ≤ n → Holds (Got n) (template_part m w ps)
-unfolding template_part
-template_got m sized w ps n le =
-    then (ValuesLeft (heft_parts ps)) (Got n) (taken_values ps) _ (values_left ps)
-    (λ e ie. then (λ d. size_at d ≤ size_in e.0.0) (Got n) (one_value e.0.0) _ (one_left e.0.0)
-    (λ d id. then (ValuesLeft (heft_parts e.1)) (Got n) (taken_values e.1) _ (values_left e.1)
-    (λ v iv. then (λ f. size_at f.0 + size_in f.1 ≤ size_in v.0.0) (Got n) (first_value v.0.0) _ (first_left v.0.0)
-    (λ f jf. then (TreeOf (1 + size_at d + size_at f.0)) (Got n) (m kinds.TemplatePart (two d f.0)) (λ t. Ok (record w { values = join w.values (more (child t) f.1) }, v.1))
-    (node_made m sized kinds.TemplatePart (two d f.0) (1 + size_at d + size_at f.0) (omega arith))
-    (λ t it. omega (arith, ie, id, iv, jf, it, size_join w.values (more (child t) f.1)))))))
-
-tail_got : (w : Work) (ps : List Part) (n : ℕ) → heft_work w + heft_parts ps ≤ n → Holds (Got n) (tail w ps)
-unfolding tail
-tail_got w ps n le = then (EndingsLeft (heft_parts ps)) (Got n) (taken_endings ps) (λ e. Ok (record w { endings = w.endings ++ e.0 }, e.1)) (endings_left ps) (λ e r. omega (arith, r, heft_join w.endings e.0))
-
-rest_got : (w : Work) (ps : List Part) (n : ℕ) → heft_work w + heft_parts ps ≤ n → Holds (Got n) (rest w ps)
-unfolding rest
-rest_got w ps n le = then (ItemsLeft (heft_parts ps)) (Got n) (taken_items ps) (λ i. Ok (record w { items = i.0 }, i.1)) (items_left ps) (λ i r. omega (arith, r))
-
 size_statements : (is : List Item) → size_in (statements is) ≤ heft_items is
 size_statements [] = omega arith
 size_statements (i ∷ is) = omega (arith, size_statements is)
-
-statements_got : (w : Work) (ps : List Part) (n : ℕ) → heft_work w + heft_parts ps + 1 ≤ n → Holds (Got n) (with_statements w ps)
-unfolding with_statements
-statements_got w ps n le =
-    then (ItemsLeft (heft_parts ps)) (Got n) (taken_items ps) (λ i. with_value (listed (statements i.0)) w i.1) (items_left ps) (λ i r. value_got (listed (statements i.0)) w i.1 n (omega (arith, r, size_statements i.0)))
 
 -- the directives in front, and the statements behind them
 abbrev Parted : List Item → ℕ → Data → Type 0
@@ -252,21 +166,6 @@ parted_from m sized (Some raw) i is r e h =
 parted_items : (m : Maker) → Sized m → (is : List Item) → Holds (Parted is (heft_items is)) (directives m is)
 parted_items m sized [] = omega arith
 parted_items m sized (i ∷ is) = parted_from m sized i.raw i is (directives m is) refl (parted_items m sized is)
-
-body_got : (m : Maker) → Sized m → (w : Work) (ps : List Part) (n : ℕ) → heft_work w + heft_parts ps + 1 ≤ n → Holds (Got n) (body m w ps)
-unfolding body
-body_got m sized w ps n le =
-    then (ItemsLeft (heft_parts ps)) (Got n) (taken_items ps) _ (items_left ps)
-    (λ i r. then (Parted i.0 (heft_items i.0)) (Got n) (directives m i.0) (λ ds. Ok (record w { values = join w.values (one (listed (statements (behind_directives i.0)))); directives = ds }, i.1)) (parted_items m sized i.0)
-    (λ ds id. omega (arith, r, id, size_join w.values (one (listed (statements (behind_directives i.0)))))))
-
-hold_got : (w : Work) → heft_work (hold w) ≤ heft_work w
-unfolding hold
-hold_got w = omega arith
-
-resume_got : (w : Work) → heft_work (resume w) ≤ heft_work w + 1
-unfolding resume
-resume_got w = omega (arith, size_join w.held (more (listed w.directives) w.values))
 
 closed_got : (m : Maker) → Sized m → (j : Kind) (w : Work) → Holds (λ x. heft_work x ≤ heft_work w + 1) (closed m j w)
 unfolding closed
@@ -297,21 +196,57 @@ step_cost (steps.Close k) = 1
 step_cost _ = 0
 
 step_got : (m : Maker) → Sized m → (s : Step) (w : Work) (ps : List Part) (n : ℕ) → heft_work w + heft_parts ps + step_cost s ≤ n → Holds (Got n) (step_on m s w ps)
-step_got m sized steps.Skip w ps n le = skip_got w ps n (omega arith)
-step_got m sized steps.Put w ps n le = put_got w ps n (omega arith)
-step_got m sized steps.Operand w ps n le = operand_got w ps n (omega arith)
-step_got m sized steps.Wrap w ps n le = wrap_got w ps n le
-step_got m sized steps.Text w ps n le = text_got w ps n le
-step_got m sized steps.Whole w ps n le = whole_got w ps n le
-step_got m sized (steps.Named j) w ps n le = named_got m sized j w ps n le
-step_got m sized steps.Quoted w ps n le = quoted_got m sized w ps n le
-step_got m sized (steps.Operator e) w ps n le = operator_got e w ps n le
-step_got m sized steps.Parameter w ps n le = parameter_got m sized w ps n le
-step_got m sized steps.TemplatePart w ps n le = template_got m sized w ps n le
-step_got m sized steps.Tail w ps n le = tail_got w ps n (omega arith)
-step_got m sized steps.Rest w ps n le = rest_got w ps n (omega arith)
-step_got m sized steps.Statements w ps n le = statements_got w ps n le
-step_got m sized steps.Body w ps n le = body_got m sized w ps n le
+unfolding skip put operand wrap text whole_number named quoted with_operator parameter template_part tail rest with_statements body hold resume
+step_got m sized steps.Skip w ps n le = then (PartsLeft (heft_parts ps)) (Got n) (without_top ps) (λ rest. Ok (w, rest)) (top_left ps) (λ rest r. omega arith)
+step_got m sized steps.Put w ps n le =
+    then (ValuesLeft (heft_parts ps)) (Got n) (taken_values ps) (λ v. Ok (record w { values = join w.values v.0.0 }, v.1)) (values_left ps) (λ v r. omega (arith, size_join w.values v.0.0))
+step_got m sized steps.Operand w ps n le =
+    then (ValuesLeft (heft_parts ps)) (Got n) (taken_values ps) (λ v. Ok (record w { values = join w.values v.0.0; raw = v.0.1 }, v.1)) (values_left ps) (λ v r. omega (arith, size_join w.values v.0.0))
+step_got m sized steps.Wrap w ps n le =
+    then (ValuesLeft (heft_parts ps)) (Got n) (taken_values ps) (λ v. with_value (listed v.0.0) w v.1) (values_left ps) (λ v r. value_got (listed v.0.0) w v.1 n (omega arith))
+step_got m sized steps.Text w ps n le =
+    then (LeafLeft (heft_parts ps)) (Got n) (taken_leaf ps) (λ l. there l.0.text >>= λ x. with_value (name x.0) w l.1) (leaf_left ps)
+    (λ l r. then (λ x. Unit {0}) (Got n) (there l.0.text) (λ x. with_value (name x.0) w l.1) (any (there l.0.text)) (λ x u. value_got (name x.0) w l.1 n (omega (arith, r))))
+step_got m sized steps.Whole w ps n le =
+    then (LeafLeft (heft_parts ps)) (Got n) (taken_leaf ps) (λ l. number l.0.kind >>= λ x. with_value (whole x) w l.1) (leaf_left ps)
+    (λ l r. then (λ x. Unit {0}) (Got n) (number l.0.kind) (λ x. with_value (whole x) w l.1) (any (number l.0.kind)) (λ x u. value_got (whole x) w l.1 n (omega (arith, r))))
+step_got m sized (steps.Named j) w ps n le =
+    then (LeafLeft (heft_parts ps)) (Got n) (taken_leaf ps) (λ l. there l.0.text >>= λ x. with_node (m j (one (name x.0))) w l.1) (leaf_left ps)
+    (λ l r. then (λ x. Unit {0}) (Got n) (there l.0.text) (λ x. with_node (m j (one (name x.0))) w l.1) (any (there l.0.text))
+    (λ x u. node_got (m j (one (name x.0))) w l.1 2 n (node_made m sized j (one (name x.0)) 2 (omega arith)) (omega (arith, r))))
+step_got m sized steps.Quoted w ps n le =
+    then (LeafLeft (heft_parts ps)) (Got n) (taken_leaf ps) _ (leaf_left ps)
+    (λ l r. then (λ x. Unit {0}) (Got n) (there l.0.text) _ (any (there l.0.text))
+    (λ x u. then (TreeOf 2) (Got n) (m kinds.LiteralStringExpression (one (name x.0))) (λ t. Ok (record w { values = join w.values (one (child t)); raw = l.0.raw }, l.1)) (node_made m sized kinds.LiteralStringExpression (one (name x.0)) 2 (omega arith))
+    (λ t it. omega (arith, r, it, size_join w.values (one (child t))))))
+step_got m sized (steps.Operator e) w ps n le =
+    then (LeafLeft (heft_parts ps)) (Got n) (taken_leaf ps) (λ l. there (operator e l.0.kind) >>= λ x. with_value (choice x) w l.1) (leaf_left ps)
+    (λ l r. then (λ x. Unit {0}) (Got n) (there (operator e l.0.kind)) (λ x. with_value (choice x) w l.1) (any (there (operator e l.0.kind))) (λ x u. value_got (choice x) w l.1 n (omega (arith, r))))
+step_got m sized steps.Parameter w ps n le =
+    then (LeafLeft (heft_parts ps)) (Got n) (taken_leaf ps) _ (leaf_left ps)
+    (λ l r. then (λ x. Unit {0}) (Got n) (there l.0.text) _ (any (there l.0.text))
+    (λ x u. then (TreeOf 2) (Got n) (m kinds.BindingIdentifier (one (name x.0))) _ (node_made m sized kinds.BindingIdentifier (one (name x.0)) 2 (omega arith))
+    (λ b ib. then (ValuesLeft (heft_parts l.1)) (Got n) (taken_values l.1) _ (values_left l.1)
+    (λ v iv. then (λ d. size_at d ≤ size_in v.0.0) (Got n) (one_value v.0.0) (λ d. with_node (parameter_of m b d) w v.1) (one_left v.0.0)
+    (λ d id. node_got (parameter_of m b d) w v.1 (3 + size_at d) n (initialized m sized b d (3 + size_at d) (omega (arith, ib))) (omega (arith, r, iv, id)))))))
+step_got m sized steps.TemplatePart w ps n le =
+    then (ValuesLeft (heft_parts ps)) (Got n) (taken_values ps) _ (values_left ps)
+    (λ e ie. then (λ d. size_at d ≤ size_in e.0.0) (Got n) (one_value e.0.0) _ (one_left e.0.0)
+    (λ d id. then (ValuesLeft (heft_parts e.1)) (Got n) (taken_values e.1) _ (values_left e.1)
+    (λ v iv. then (λ f. size_at f.0 + size_in f.1 ≤ size_in v.0.0) (Got n) (first_value v.0.0) _ (first_left v.0.0)
+    (λ f jf. then (TreeOf (1 + size_at d + size_at f.0)) (Got n) (m kinds.TemplatePart (two d f.0)) (λ t. Ok (record w { values = join w.values (more (child t) f.1) }, v.1))
+    (node_made m sized kinds.TemplatePart (two d f.0) (1 + size_at d + size_at f.0) (omega arith))
+    (λ t it. omega (arith, ie, id, iv, jf, it, size_join w.values (more (child t) f.1)))))))
+step_got m sized steps.Tail w ps n le =
+    then (EndingsLeft (heft_parts ps)) (Got n) (taken_endings ps) (λ e. Ok (record w { endings = w.endings ++ e.0 }, e.1)) (endings_left ps) (λ e r. omega (arith, r, heft_join w.endings e.0))
+step_got m sized steps.Rest w ps n le =
+    then (ItemsLeft (heft_parts ps)) (Got n) (taken_items ps) (λ i. Ok (record w { items = i.0 }, i.1)) (items_left ps) (λ i r. omega (arith, r))
+step_got m sized steps.Statements w ps n le =
+    then (ItemsLeft (heft_parts ps)) (Got n) (taken_items ps) (λ i. with_value (listed (statements i.0)) w i.1) (items_left ps) (λ i r. value_got (listed (statements i.0)) w i.1 n (omega (arith, r, size_statements i.0)))
+step_got m sized steps.Body w ps n le =
+    then (ItemsLeft (heft_parts ps)) (Got n) (taken_items ps) _ (items_left ps)
+    (λ i r. then (Parted i.0 (heft_items i.0)) (Got n) (directives m i.0) (λ ds. Ok (record w { values = join w.values (one (listed (statements (behind_directives i.0)))); directives = ds }, i.1)) (parted_items m sized i.0)
+    (λ ds id. omega (arith, r, id, size_join w.values (one (listed (statements (behind_directives i.0)))))))
 step_got m sized steps.Absent w ps n le = value_got absent w ps n (omega arith)
 step_got m sized steps.NoLabel w ps n le = value_got no_name w ps n (omega arith)
 step_got m sized steps.NoItems w ps n le = value_got (listed none) w ps n (omega arith)
@@ -320,8 +255,8 @@ step_got m sized (steps.Choice i) w ps n le = value_got (choice i) w ps n (omega
 step_got m sized (steps.Scope j) w ps n le = node_got (m j no_names) w ps 3 n (node_made m sized j no_names 3 (omega arith)) (omega arith)
 step_got m sized steps.ParameterScope w ps n le =
     node_got (m kinds.AssertedParameterScope no_parameter_names) w ps 4 n (node_made m sized kinds.AssertedParameterScope no_parameter_names 4 (omega arith)) (omega arith)
-step_got m sized steps.Hold w ps n le = omega (arith, hold_got w)
-step_got m sized steps.Resume w ps n le = omega (arith, resume_got w)
+step_got m sized steps.Hold w ps n le = omega arith
+step_got m sized steps.Resume w ps n le = omega (arith, size_join w.held (more (listed w.directives) w.values))
 step_got m sized (steps.Close j) w ps n le = then (λ x. heft_work x ≤ heft_work w + 1) (Got n) (closed m j w) (λ x. Ok (x, ps)) (closed_got m sized j w) (λ x ix. omega (arith, ix))
 
 abbrev pub steps_cost : List Step → ℕ

@@ -11,7 +11,7 @@ use Rattle.bast_schema.specs.Counts.{is_whole, is_whole_at, is_whole_in}
 use Rattle.bast_schema.specs.Fields.{fields, has_lazy}
 use Rattle.bast_schema.specs.Kinds.{same_kind}
 use Rattle.bast_schema.specs.Made.{node_or}
-use Rattle.bast_schema.specs.Tree.{Tree, branch, Datum, child, listed, name, window, Data, none, more, first_wrong, depth, depth_at, depth_in}
+use Rattle.bast_schema.specs.Tree.{Tree, branch, Datum, child, listed, flag, name, Data, none, more, first_wrong, depth, depth_at, depth_in}
 use Rattle.js_machine.specs.declared.events.Event.{Event}
 use Rattle.bast_schema.specs.Eager.{is_eager, is_eager_at, are_eager}
 use Rattle.scope_facts.specs.Bare.{empty_fields, bare_scope, bare, bare_at, bare_in}
@@ -75,46 +75,6 @@ both_true : (a b : Bool) → a ≡ true → b ≡ true → (a && b) ≡ true
 both_true true b e f = f
 both_true false b e f = absurd cc
 
--- no window
-abbrev IsWhole : Datum → Type 0
-IsWhole d = is_whole_at d ≡ true
-
-each_whole : (ds : Data) → Each IsWhole ds → is_whole_in ds ≡ true
-each_whole none h = refl
-each_whole (more d ds) h = both_true (is_whole_at d) (is_whole_in ds) h.0 (each_whole ds h.1)
-
-whole_node : (k : Kind) (ds : Data) (t : Tree) → Each IsWhole ds → limited k ds ≡ Ok t → is_whole t ≡ true
-whole_node k ds t h made = subst (λ t. is_whole t ≡ true) (limited_made k ds t made).same (each_whole ds h)
-
-whole_kept : Kept limited IsWhole
-whole_kept = record {
-  node = λ k ds t is h made. whole_node k ds t h made;
-  scope = λ k t is made. whole_node k (empty_fields (shape_of k)) t (empty_held IsWhole refl refl (shape_of k)) made;
-  named = λ k n t is h made. whole_node k (one (name n)) t (h, tt) made;
-  shorthand = λ ds t u h made again. whole_node kinds.ShorthandProperty (one (child t)) u (whole_node kinds.IdentifierExpression ds t h made, tt) again;
-  name_of = λ t n h e. refl;
-  list = each_whole;
-  no_node = refl;
-  no_label = refl;
-  flags = λ b. refl;
-  wholes = λ n. refl;
-  choices = λ n. refl;
-}
-
-pub trees_are_whole : (ls : List Leaf) (es : List Event) (t : Tree) → tree_of limited ls es ≡ Ok t → is_whole t ≡ true
-trees_are_whole ls es t made = of_tree limited IsWhole whole_kept ls es t (no_names_in IsWhole (λ n. refl) ls) made
-
--- no lazy kind
-abbrev IsEager : Datum → Type 0
-IsEager d = is_eager_at d ≡ true
-
-each_eager : (ds : Data) → Each IsEager ds → are_eager ds ≡ true
-each_eager none h = refl
-each_eager (more d ds) h = both_true (is_eager_at d) (are_eager ds) h.0 (each_eager ds h.1)
-
-eager_node : (k : Kind) (ds : Data) (t : Tree) → has_lazy k ≡ false → Each IsEager ds → limited k ds ≡ Ok t → is_eager t ≡ true
-eager_node k ds t is h made = subst (λ t. is_eager t ≡ true) (limited_made k ds t made).same (both_true (not (has_lazy k)) (are_eager ds) (ap not is) (each_eager ds h))
-
 neither : (a b : Bool) → not (a || b) ≡ true → (a ≡ false) × (b ≡ false)
 neither true b e = absurd cc
 neither false true e = absurd cc
@@ -123,35 +83,6 @@ neither false false e = (refl, refl)
 first_true : (a b : Bool) → (a && b) ≡ true → a ≡ true
 first_true true b e = refl
 first_true false b e = e
-
-eager_kept : Kept limited IsEager
-eager_kept = record {
-  node = λ k ds t is h made. eager_node k ds t (neither (has_lazy k) (is_scope_part (part k)) (first_true (is_common k) (not (same_kind k kinds.IdentifierExpression)) is)).0 h made;
-  scope = λ k t is made. eager_node k (empty_fields (shape_of k)) t is (empty_held IsEager refl refl (shape_of k)) made;
-  named = λ k n t is h made. eager_node k (one (name n)) t (neither (has_lazy k) (is_scope_part (part k)) is).0 (h, tt) made;
-  shorthand = λ ds t u h made again. eager_node kinds.ShorthandProperty (one (child t)) u refl (eager_node kinds.IdentifierExpression ds t refl h made, tt) again;
-  name_of = λ t n h e. refl;
-  list = each_eager;
-  no_node = refl;
-  no_label = refl;
-  flags = λ b. refl;
-  wholes = λ n. refl;
-  choices = λ n. refl;
-}
-
-pub trees_are_eager : (ls : List Leaf) (es : List Event) (t : Tree) → tree_of limited ls es ≡ Ok t → is_eager t ≡ true
-trees_are_eager ls es t made = of_tree limited IsEager eager_kept ls es t (no_names_in IsEager (λ n. refl) ls) made
-
--- the names
-abbrev IsNamed : (ℕ → Bool) → Datum → Type 0
-IsNamed p d = names_hold_at p d ≡ true
-
-each_named : (p : ℕ → Bool) (ds : Data) → Each (IsNamed p) ds → names_hold_in p ds ≡ true
-each_named p none h = refl
-each_named p (more d ds) h = both_true (names_hold_at p d) (names_hold_in p ds) h.0 (each_named p ds h.1)
-
-named_node : (p : ℕ → Bool) (k : Kind) (ds : Data) (t : Tree) → Each (IsNamed p) ds → limited k ds ≡ Ok t → names_hold p t ≡ true
-named_node p k ds t h made = subst (λ t. names_hold p t ≡ true) (limited_made k ds t made).same (each_named p ds h)
 
 no_name_here : {A : Type 0} (n : ℕ) → None ≡ Some n → A
 no_name_here n e = cc
@@ -167,107 +98,109 @@ name_in p false ds n h e = no_name_here n e
 name_of_tree : (p : ℕ → Bool) (t : Tree) (n : ℕ) → names_hold p t ≡ true → identifier t ≡ Some n → p n ≡ true
 name_of_tree p (branch k ds) n h e = name_in p (same_kind k kinds.IdentifierExpression) ds n h e
 
-names_kept : (p : ℕ → Bool) → Kept limited (IsNamed p)
-names_kept p = record {
-  node = λ k ds t is h made. named_node p k ds t h made;
-  scope = λ k t is made. named_node p k (empty_fields (shape_of k)) t (empty_held (IsNamed p) refl refl (shape_of k)) made;
-  named = λ k n t is h made. named_node p k (one (name n)) t (h, tt) made;
-  shorthand = λ ds t u h made again. named_node p kinds.ShorthandProperty (one (child t)) u (named_node p kinds.IdentifierExpression ds t h made, tt) again;
-  name_of = name_of_tree p;
-  list = each_named p;
-  no_node = refl;
-  no_label = refl;
-  flags = λ b. refl;
-  wholes = λ n. refl;
-  choices = λ n. refl;
+no_scope : {A : Type 0} → false ≡ true → A
+no_scope e = cc
+
+one_plain : (d : Datum) (b : Bool) → is_scope d ≡ b → (bare_at d ≡ d) × (is_scope d ≡ true → bare_scope d ≡ d) → cond b (bare_scope d) (bare_at d) ≡ d
+one_plain d true e h = h.1 e
+one_plain d false e h = h.0
+
+-- no window and no lazy kind, names of that kind, at most 512 deep, and scopes that say nothing
+pub record Good (p : ℕ → Bool) (d : Datum) : Type 0 where
+  pub whole : is_whole_at d ≡ true
+  pub eager : is_eager_at d ≡ true
+  pub named : names_hold_at p d ≡ true
+  pub shallow : depth_at d ≤ 512
+  pub plain : bare_at d ≡ d
+  pub scope : is_scope d ≡ true → bare_scope d ≡ d
+
+record AllGood (p : ℕ → Bool) (ds : Data) : Type 0 where
+  whole : is_whole_in ds ≡ true
+  eager : are_eager ds ≡ true
+  named : names_hold_in p ds ≡ true
+  shallow : depth_in ds ≤ 512
+  plain : bare_in ds ≡ ds
+
+all_good : (p : ℕ → Bool) (ds : Data) → Each (Good p) ds → AllGood p ds
+all_good p none h = record { whole = refl; eager = refl; named = refl; shallow = omega arith; plain = refl }
+all_good p (more d ds) h =
+    let r = all_good p ds h.1 in let one : Good p d = h.0 in let a : depth_at d ≤ 512 = one.shallow in let b : depth_in ds ≤ 512 = r.shallow
+    in record {
+      whole = both_true (is_whole_at d) (is_whole_in ds) one.whole r.whole;
+      eager = both_true (is_eager_at d) (are_eager ds) one.eager r.eager;
+      named = both_true (names_hold_at p d) (names_hold_in p ds) one.named r.named;
+      shallow = omega (arith, a, b);
+      plain = ap (λ e. more e (bare_in ds)) (one_plain d (is_scope d) refl (one.plain, one.scope)) ∙ ap (more d) r.plain;
+    }
+
+node_good : (p : ℕ → Bool) (k : Kind) (ds : Data) (t : Tree) → has_lazy k ≡ false → (is_scope (child (branch k ds)) ≡ true → bare_scope (child (branch k ds)) ≡ child (branch k ds)) → Each (Good p) ds
+    → limited k ds ≡ Ok t → Good p (child t)
+node_good p k ds t is scope h made =
+    let r = limited_made k ds t made in let a = all_good p ds h
+    in subst (λ t. Good p (child t)) r.same (record {
+      whole = a.whole;
+      eager = both_true (not (has_lazy k)) (are_eager ds) (ap not is) a.eager;
+      named = a.named;
+      shallow = r.shallow;
+      plain = ap (λ k. child (branch k (bare_in ds))) (eager_is k (ap not is)) ∙ ap (λ ds. child (branch k ds)) a.plain;
+      scope = scope;
+    })
+
+common_good : (p : ℕ → Bool) (k : Kind) (ds : Data) (t : Tree) → is_common k ≡ true → Each (Good p) ds → limited k ds ≡ Ok t → Good p (child t)
+common_good p k ds t is h made = let no = neither (has_lazy k) (is_scope_part (part k)) is in node_good p k ds t no.0 (λ scope. let not_one = no.1 in cc) h made
+
+name_good : (p : ℕ → Bool) (n : ℕ) → p n ≡ true → Good p (name n)
+name_good p n h = record { whole = refl; eager = refl; named = h; shallow = omega arith; plain = refl; scope = no_scope }
+
+list_good : (p : ℕ → Bool) (ds : Data) → Each (Good p) ds → Good p (listed ds)
+list_good p ds h = let a = all_good p ds h in record { whole = a.whole; eager = a.eager; named = a.named; shallow = a.shallow; plain = ap listed a.plain; scope = no_scope }
+
+flag_good : (p : ℕ → Bool) (b : Bool) → Good p (flag b)
+flag_good p b = record { whole = refl; eager = refl; named = refl; shallow = omega arith; plain = refl; scope = no_scope }
+
+good_kept : (p : ℕ → Bool) → Kept limited (Good p)
+good_kept p = record {
+  node = λ k ds t is h made. common_good p k ds t (first_true (is_common k) (not (same_kind k kinds.IdentifierExpression)) is) h made;
+  scope = λ k t is made. node_good p k (empty_fields (shape_of k)) t is (λ s. refl) (empty_held (Good p) (list_good p none tt) (flag_good p false) (shape_of k)) made;
+  named = λ k n t is h made. common_good p k (one (name n)) t is (h, tt) made;
+  shorthand = λ ds t u h made again. common_good p kinds.ShorthandProperty (one (child t)) u refl (common_good p kinds.IdentifierExpression ds t refl h made, tt) again;
+  name_of = λ t n h e. name_good p n (name_of_tree p t n h.named e);
+  list = list_good p;
+  no_node = record { whole = refl; eager = refl; named = refl; shallow = omega arith; plain = refl; scope = no_scope };
+  no_label = record { whole = refl; eager = refl; named = refl; shallow = omega arith; plain = refl; scope = no_scope };
+  flags = flag_good p;
+  wholes = λ n. record { whole = refl; eager = refl; named = refl; shallow = omega arith; plain = refl; scope = no_scope };
+  choices = λ n. record { whole = refl; eager = refl; named = refl; shallow = omega arith; plain = refl; scope = no_scope };
 }
 
-of_name : (p : ℕ → Bool) (o : Option NameId) → IsNameIn p o → HoldsName (IsNamed p) o
+of_name : (p : ℕ → Bool) (o : Option NameId) → IsNameIn p o → HoldsName (Good p) o
 of_name p None h = tt
-of_name p (Some n) h = h
+of_name p (Some n) h = name_good p n.0 h
 
-names_of : (p : ℕ → Bool) (ls : List Leaf) → AreNamesIn p ls → HoldsLeaves (IsNamed p) ls
+names_of : (p : ℕ → Bool) (ls : List Leaf) → AreNamesIn p ls → HoldsLeaves (Good p) ls
 names_of p [] h = tt
 names_of p (l ∷ ls) h = ((of_name p l.text h.0.0, of_name p l.raw h.0.1), names_of p ls h.1)
 
 pub trees_have_names : (p : ℕ → Bool) (ls : List Leaf) (es : List Event) (t : Tree) → AreNamesIn p ls → tree_of limited ls es ≡ Ok t → names_hold p t ≡ true
-trees_have_names p ls es t h made = of_tree limited (IsNamed p) (names_kept p) ls es t (names_of p ls h) made
+trees_have_names p ls es t h made = (of_tree limited (Good p) (good_kept p) ls es t (names_of p ls h) made).named
 
--- the depth
-abbrev IsShallow : Datum → Type 0
-IsShallow d = depth_at d ≤ 512
+abbrev any_name_holds : ℕ → Bool
+any_name_holds n = true
 
-each_shallow : (ds : Data) → Each IsShallow ds → depth_in ds ≤ 512
-each_shallow none h = omega arith
-each_shallow (more d ds) h = let a : depth_at d ≤ 512 = h.0 in let b = each_shallow ds h.1 in omega (arith, a, b)
+trees_are_good : (ls : List Leaf) (es : List Event) (t : Tree) → tree_of limited ls es ≡ Ok t → Good any_name_holds (child t)
+trees_are_good ls es t made = of_tree limited (Good any_name_holds) (good_kept any_name_holds) ls es t (no_names_in (Good any_name_holds) (λ n. name_good any_name_holds n refl) ls) made
 
-shallow_node : (k : Kind) (ds : Data) (t : Tree) → limited k ds ≡ Ok t → depth t ≤ 512
-shallow_node k ds t made = let r = limited_made k ds t made in subst (λ t. depth t ≤ 512) r.same r.shallow
+pub trees_are_whole : (ls : List Leaf) (es : List Event) (t : Tree) → tree_of limited ls es ≡ Ok t → is_whole t ≡ true
+trees_are_whole ls es t made = (trees_are_good ls es t made).whole
 
-shallow_kept : Kept limited IsShallow
-shallow_kept = record {
-  node = λ k ds t is h made. shallow_node k ds t made;
-  scope = λ k t is made. shallow_node k (empty_fields (shape_of k)) t made;
-  named = λ k n t is h made. shallow_node k (one (name n)) t made;
-  shorthand = λ ds t u h made again. shallow_node kinds.ShorthandProperty (one (child t)) u again;
-  name_of = λ t n h e. omega arith;
-  list = each_shallow;
-  no_node = omega arith;
-  no_label = omega arith;
-  flags = λ b. omega arith;
-  wholes = λ n. omega arith;
-  choices = λ n. omega arith;
-}
+pub trees_are_eager : (ls : List Leaf) (es : List Event) (t : Tree) → tree_of limited ls es ≡ Ok t → is_eager t ≡ true
+trees_are_eager ls es t made = (trees_are_good ls es t made).eager
 
 pub trees_are_shallow : (ls : List Leaf) (es : List Event) (t : Tree) → tree_of limited ls es ≡ Ok t → depth t ≤ 512
-trees_are_shallow ls es t made = of_tree limited IsShallow shallow_kept ls es t (no_names_in IsShallow (λ n. omega arith) ls) made
-
--- no lazy kind, and scopes that say nothing
-abbrev IsPlain : Datum → Type 0
-IsPlain d = (bare_at d ≡ d) × (is_scope d ≡ true → bare_scope d ≡ d)
-
-one_plain : (d : Datum) (b : Bool) → is_scope d ≡ b → IsPlain d → cond b (bare_scope d) (bare_at d) ≡ d
-one_plain d true e h = h.1 e
-one_plain d false e h = h.0
-
-each_plain : (ds : Data) → Each IsPlain ds → bare_in ds ≡ ds
-each_plain none h = refl
-each_plain (more d ds) h = ap (λ e. more e (bare_in ds)) (one_plain d (is_scope d) refl h.0) ∙ ap (more d) (each_plain ds h.1)
-
-bare_branch : (k : Kind) (ds : Data) → has_lazy k ≡ false → Each IsPlain ds → bare (branch k ds) ≡ branch k ds
-bare_branch k ds is h = ap (λ k. branch k (bare_in ds)) (eager_is k (ap not is)) ∙ ap (branch k) (each_plain ds h)
-
-plain_branch : (k : Kind) (ds : Data) → is_common k ≡ true → Each IsPlain ds → IsPlain (child (branch k ds))
-plain_branch k ds is h = let no = neither (has_lazy k) (is_scope_part (part k)) is in (ap child (bare_branch k ds no.0 h), λ scope. let not_one = no.1 in cc)
-
-plain_node : (k : Kind) (ds : Data) (t : Tree) → is_common k ≡ true → Each IsPlain ds → limited k ds ≡ Ok t → IsPlain (child t)
-plain_node k ds t is h made = subst (λ t. IsPlain (child t)) (limited_made k ds t made).same (plain_branch k ds is h)
-
-no_scope : {A : Type 0} → false ≡ true → A
-no_scope e = cc
-
-plain_scope : (k : Kind) (t : Tree) → has_lazy k ≡ false → limited k (empty_fields (shape_of k)) ≡ Ok t → IsPlain (child t)
-plain_scope k t is made =
-    subst (λ t. IsPlain (child t)) (limited_made k (empty_fields (shape_of k)) t made).same
-    (ap child (bare_branch k (empty_fields (shape_of k)) is (empty_held IsPlain (refl, no_scope) (refl, no_scope) (shape_of k))), λ scope. refl)
-
-plain_kept : Kept limited IsPlain
-plain_kept = record {
-  node = λ k ds t is h made. plain_node k ds t (first_true (is_common k) (not (same_kind k kinds.IdentifierExpression)) is) h made;
-  scope = plain_scope;
-  named = λ k n t is h made. plain_node k (one (name n)) t is (h, tt) made;
-  shorthand = λ ds t u h made again. plain_node kinds.ShorthandProperty (one (child t)) u refl (plain_node kinds.IdentifierExpression ds t refl h made, tt) again;
-  name_of = λ t n h e. (refl, no_scope);
-  list = λ ds h. (ap listed (each_plain ds h), no_scope);
-  no_node = (refl, no_scope);
-  no_label = (refl, no_scope);
-  flags = λ b. (refl, no_scope);
-  wholes = λ n. (refl, no_scope);
-  choices = λ n. (refl, no_scope);
-}
+trees_are_shallow ls es t made = (trees_are_good ls es t made).shallow
 
 same_tree : (t u : Tree) → child t ≡ child u → t ≡ u
 same_tree t u e = cc
 
 pub trees_are_plain : (ls : List Leaf) (es : List Event) (t : Tree) → tree_of limited ls es ≡ Ok t → bare t ≡ t
-trees_are_plain ls es t made = same_tree (bare t) t (of_tree limited IsPlain plain_kept ls es t (no_names_in IsPlain (λ n. (refl, no_scope)) ls) made).0
+trees_are_plain ls es t made = same_tree (bare t) t (trees_are_good ls es t made).plain
