@@ -1,5 +1,5 @@
 -- What the machine accepts has a tree: what is left of a run makes parts that suit the stack.
-use Rattle.std.proofs.Common.{◌≡◌, ℕ, zero, suc, ◌≤◌, ◌<◌, Bool, true, false, not, cond, ◌&&◌, inl, inr, List, [], ◌∷◌, ◌++◌, reverse, Option, Some, None, Ok, refl, sym, ap, ◌∙◌, subst, arith, append_assoc, append-nil}
+use Rattle.std.proofs.Common.{◌≡◌, ℕ, suc, ◌≤◌, ◌<◌, Bool, true, false, not, ◌&&◌, inl, inr, List, [], ◌∷◌, ◌++◌, reverse, Option, Some, None, Ok, refl, sym, ap, ◌∙◌, subst, arith, append_assoc}
 use Rattle.std.proofs.lemmas.List.{reverse-append}
 use Rattle.std.specs.Prelude.{◌==◌}
 use Rattle.std.specs.List.{list_all}
@@ -15,17 +15,13 @@ use Rattle.js_grammar.specs.declared.symbols.RowId.TheVariants as rows
 use Rattle.js_grammar.specs.Classes.{takes_class, is_among}
 use Rattle.js_grammar.specs.Choice.{row_of}
 use Rattle.js_grammar.specs.Rows.{row_symbols, is_marked}
-use Rattle.js_machine.specs.declared.kinds.Kind.{Kind}
-use Rattle.js_machine.specs.declared.kinds.Kind.TheVariants.{Terminal as TakesToken, Semicolon, Expands}
 use Rattle.js_machine.specs.declared.events.Frame.{Frame}
 use Rattle.js_machine.specs.declared.events.Frame.TheVariants.{Want, EndMark}
 use Rattle.js_machine.specs.declared.events.Event.{Event}
 use Rattle.js_machine.specs.declared.events.Event.TheVariants.{Row, Took, Inserted}
-use Rattle.js_machine.specs.declared.stops.Stop.{Stop}
-use Rattle.js_machine.specs.declared.stops.Stop.TheVariants.{Syntax, TooDeep}
 use Rattle.js_machine.specs.declared.lookahead.Lookahead.{Lookahead}
 use Rattle.js_machine.specs.Left.{is_behind}
-use Rattle.js_machine.specs.Machine.{State, Stay, Halt, Outcome, Accepted, Stopped, act_on, go_on, run, finish, use_kind, use_row, use_token, kind_of, counts_as_there, want_all, under_mark, with_row, with_token, is_too_deep, may_follow, is_one_identifier, is_one_head, stuck}
+use Rattle.js_machine.specs.Machine.{State, want_all, under_mark, with_row, with_token, may_follow, is_one_identifier, is_one_head}
 use Rattle.js_machine.proofs.Work.{vanishes}
 use Rattle.js_tree.specs.Image.{image, event_part, leaf_part, row_part}
 use Rattle.js_tree.specs.Nodes.{Maker}
@@ -39,6 +35,7 @@ use Rattle.js_tree.proofs.Safe.{safely_bind, among_one}
 use Rattle.js_tree.proofs.Suits.{Left, NameAt, HeadAt, is_name, is_head, after, after_by, StandsAt, NameStandsAt, Suits, Chain, is_late, OpenAt, Open, passes_head, is_ready, in_chain, is_new, Linked}
 use Rattle.js_tree.proofs.Apart.{open_under, all_open, from_after}
 use Rattle.js_tree.proofs.Rowwise.{class_ok, OnArrow, Followed, Here}
+use Rattle.js_tree.proofs.Leading.{push, Goes, Ended, Unmarked, Expanded, Taken, Separated, Counted}
 use Rattle.js_tree.proofs.EachRow.{row_goal, row_linked, row_guarded, row_ok, ok_at}
 
 -- what the tokens that are left tell
@@ -88,9 +85,6 @@ abbrev pub Made : Maker → List Frame → State → List Lookahead → List Lea
 Made m fs st ts ls more =
     (o : Left) → ArrowNext o ts → Agree st.taken st.before st.row_from o fs → (back : List Leaf)
     → Safely (λ s. (s.0 ≡ back) × Suits m fs o s.1) (image m (reverse ls ++ back) more)
-
-abbrev pub Builds : Maker → List Frame → State → List Lookahead → List Leaf → List Event → Type 0
-Builds m fs st ts ls all = (more : List Event) × (all ≡ st.events ++ more) × Made m fs st ts ls more
 
 -- the stack's facts, step by step
 chain_lift : (c first : Class) (n from : ℕ) (fs : List Frame) → from ≤ n → (from ≡ n → first ≡ c) → Chain first from fs → Chain c n fs
@@ -304,125 +298,64 @@ sound_next s first from c d st sound =
       closed = λ e. omega (arith, sound.chain.0);
     }
 
+same_sound : (s : Symbol) (first : Class) (from : ℕ) (c : Class) (st : State) → Sound c (push s first from st).stack (push s first from st) → Sound c (Want s first from ∷ st.stack) st
+same_sound s first from c st sound = record { chain = sound.chain; linked = sound.linked; late = sound.late; closed = sound.closed }
+
+-- the facts of the stack, where a token is left
+abbrev pub SoundAt : List Lookahead → State → Type 0
+SoundAt [] st = Unit {0}
+SoundAt (t ∷ ts) st = Sound t.class st.stack st
+
+sound_at : (ts : List Lookahead) (st : State) → ((c : Class) → Sound c st.stack st) → SoundAt ts st
+sound_at [] st all = tt
+sound_at (t ∷ ts) st all = all t.class
+
+-- the token that the symbol on top takes, if the run is accepted
+abbrev FirstTaken : Terminal → List Lookahead → Type 0
+FirstTaken x [] = Unit {0}
+FirstTaken x (t ∷ ts) = takes_class x t.class ≡ true
+
+first_taken : (st : State) (ts : List Lookahead) (es : List Event) → Goes st ts es → (x : Terminal) (first : Class) (from : ℕ) (fs : List Frame) → st.stack ≡ Want (symbols.Take x) first from ∷ fs → FirstTaken x ts
+first_taken _ _ _ (Ended st e) x first from fs is = tt
+first_taken _ _ _ (Unmarked st t ts es d) x first from fs is = cc
+first_taken _ _ _ (Expanded s f k r st t ts es row may d) x first from fs is = let same : s ≡ symbols.Take x = cc in let none : None ≡ Some r = subst (λ s. row_of s t.class t.newline_before ≡ Some r) same row in cc
+first_taken _ _ _ (Taken y f k st t ts es takes d) x first from fs is = let same : y ≡ x = cc in subst (λ y. takes_class y t.class ≡ true) same takes
+first_taken _ _ _ (Separated f k st t ts es takes d) x first from fs is = cc
+first_taken _ _ _ (Counted f k st t ts es d) x first from fs is = cc
+
+new_row : (s : Symbol) (c : Class) (newline : Bool) (r : RowId) → is_new s ≡ true → row_of s c newline ≡ Some r → rows.New ≡ r
+new_row symbols.New c newline r e is = cc
+new_row _ c newline r e is = cc
+
+function_row : (s : Symbol) (c : Class) (newline : Bool) (r : RowId) → is_function s ≡ true → row_of s c newline ≡ Some r → rows.Function ≡ r
+function_row symbols.Function c newline r e is = cc
+function_row _ c newline r e is = cc
+
 -- each step of a run that ends well
-pub stopped_not : {A : Type 0} (p : Stop) (all : List Event) → Some (Stopped p) ≡ Some (Accepted all) → A
-stopped_not p all e = cc
-
-module _ (m : Maker) (maker : IsMaker m) (K : List Frame → List Lookahead → Type 0) (closes : Closes K) (all : List Event) where
-  abbrev Here-of : Lookahead → List Lookahead → List Leaf → (State → Option Outcome) → Type 0
-  Here-of t ts ls h = (st : State) → Sound t.class st.stack st → K st.stack (t ∷ ts) → h st ≡ Some (Accepted all) → Builds m st.stack st (t ∷ ts) ls all
-
-  abbrev Next-of : List Lookahead → List Leaf → (State → Option Outcome) → Type 0
-  Next-of ts ls g = (st : State) → ((c : Class) → Sound c st.stack st) → K st.stack ts → g st ≡ Some (Accepted all) → Builds m st.stack st ts ls all
-
-  abbrev New-of : Lookahead → (State → Option Outcome) → Type 0
-  New-of t h = (st : State) (x : Terminal) (first : Class) (from : ℕ) (fs : List Frame) → st.stack ≡ Want (symbols.Take x) first from ∷ fs → h st ≡ Some (Accepted all) → takes_class x t.class ≡ true
-
-  new_row : (s : Symbol) (c : Class) (newline : Bool) (r : RowId) → is_new s ≡ true → row_of s c newline ≡ Some r → rows.New ≡ r
-  new_row symbols.New c newline r e is = cc
-  new_row _ c newline r e is = cc
-
-  function_row : (s : Symbol) (c : Class) (newline : Bool) (r : RowId) → is_function s ≡ true → row_of s c newline ≡ Some r → rows.Function ≡ r
-  function_row symbols.Function c newline r e is = cc
-  function_row _ c newline r e is = cc
-
-  row_taken : (deep follows : Bool) (r : RowId) (s : Symbol) (first : Class) (from : ℕ) (t : Lookahead) (st : State) (ts : List Lookahead) (ls : List Leaf) (h g : State → Option Outcome)
-      → may_follow r first from st ≡ follows → Here-of t ts ls h → New-of t h → row_of s t.class t.newline_before ≡ Some r → Sound t.class (Want s first from ∷ st.stack) st → K (Want s first from ∷ st.stack) (t ∷ ts)
-      → go_on (cond deep (Halt (TooDeep t.at)) (cond follows (Stay (with_row r t.class st)) (Halt (Syntax t.at)))) h g ≡ Some (Accepted all) → Builds m (Want s first from ∷ st.stack) st (t ∷ ts) ls all
-  row_taken true follows r s first from t st ts ls h g may here new is sound k e = stopped_not (TooDeep t.at) all e
-  row_taken false false r s first from t st ts ls h g may here new is sound k e = stopped_not (Syntax t.at) all e
-  row_taken false true r s first from t st ts ls h g may here new is sound k e =
-      let ok = ok_at s t.class t.newline_before r is (λ n. new (with_row r t.class st) (terminals.One classes.New) t.class st.taken _ (sym (ap (λ r. (with_row r t.class st).stack) (new_row s t.class t.newline_before r n is))) e) in
-      let f = row_facts s first from t.class t.newline_before r st ok sound in
-      let facts : Sound t.class (with_row r t.class st).stack (with_row r t.class st) = record { chain = f.chain; linked = f.linked; late = f.late; closed = f.closed } in
-      let rest = here (with_row r t.class st) facts (closes.row s first from st.taken st.stack t ts r (is_marked r) is (λ n. new (with_row r t.class st) (terminals.One classes.Function) t.class st.taken _ (sym (ap (λ r. (with_row r t.class st).stack) (function_row s t.class t.newline_before r n is))) e) k) e in
-      (Row r ∷ rest.0, rest.1 ∙ append_assoc st.events ((Row r) ∷ []) rest.0, row_made m maker s first from t ts ls r st rest.0 is ok may sound rest.2)
-
-  row_used : (o : Option RowId) (s : Symbol) (first : Class) (from : ℕ) (t : Lookahead) (st : State) (ts : List Lookahead) (ls : List Leaf) (h g : State → Option Outcome)
-      → Here-of t ts ls h → New-of t h → row_of s t.class t.newline_before ≡ o → Sound t.class (Want s first from ∷ st.stack) st → K (Want s first from ∷ st.stack) (t ∷ ts)
-      → go_on (use_row o s first from t st) h g ≡ Some (Accepted all) → Builds m (Want s first from ∷ st.stack) st (t ∷ ts) ls all
-  row_used None s first from t st ts ls h g here new is sound k e = stopped_not (stuck s st.before t) all e
-  row_used (Some r) s first from t st ts ls h g here new is sound k e = row_taken (is_too_deep r st.stack) (may_follow r first from st) r s first from t st ts ls h g refl here new is sound k e
-
-  terminal_of : (s : Symbol) (x : Terminal) → kind_of s ≡ TakesToken x → symbols.Take x ≡ s
-  terminal_of (symbols.Take t) x e = cc
-  terminal_of _ x e = cc
-
-  semicolon_of : (s : Symbol) → kind_of s ≡ Semicolon → symbols.Semi ≡ s
-  semicolon_of symbols.Semi e = refl
-  semicolon_of _ e = cc
-
-  token_used : (b : Bool) (x : Terminal) (s : Symbol) (first : Class) (from : ℕ) (t : Lookahead) (st : State) (ts : List Lookahead) (l : Leaf) (ls : List Leaf) (h g : State → Option Outcome)
-      → takes_class x t.class ≡ b → Next-of ts ls g → LeafIs t.class l → Sound t.class (Want (symbols.Take x) first from ∷ st.stack) st → K (Want (symbols.Take x) first from ∷ st.stack) (t ∷ ts)
-      → go_on (use_token b s from t st) h g ≡ Some (Accepted all) → Builds m (Want (symbols.Take x) first from ∷ st.stack) st (t ∷ ts) (l ∷ ls) all
-  token_used true x s first from t st ts l ls h g takes next leaf sound k e =
-      let rest = next (with_token t.class from st) (λ d. sound_next (symbols.Take x) first from t.class d st sound) (closes.token x first from st.stack t ts takes k) e in
-      (Took ∷ rest.0, rest.1 ∙ append_assoc st.events (Took ∷ []) rest.0, token_made m x first from t ts l ls st rest.0 takes leaf sound (closes.arrow x first from st.stack t ts takes k) rest.2)
-  token_used false x s first from t st ts l ls h g takes next leaf sound k e = stopped_not (stuck s st.before t) all e
-
-  semicolon_used : (a b : Bool) (first : Class) (from : ℕ) (t : Lookahead) (st : State) (ts : List Lookahead) (l : Leaf) (ls : List Leaf) (h g : State → Option Outcome)
-      → is_among t.class (classes.Semicolon ∷ []) ≡ a → Here-of t ts (l ∷ ls) h → Next-of ts ls g → Sound t.class (Want symbols.Semi first from ∷ st.stack) st → K (Want symbols.Semi first from ∷ st.stack) (t ∷ ts)
-      → go_on (cond a (use_token true symbols.Semi from t st) (cond b (Stay (record st { events = st.events ++ Inserted ∷ [] })) (use_token false symbols.Semi from t st))) h g ≡ Some (Accepted all) → Builds m (Want symbols.Semi first from ∷ st.stack) st (t ∷ ts) (l ∷ ls) all
-  semicolon_used true b first from t st ts l ls h g takes here next sound k e =
-      let rest = next (with_token t.class from st) (λ d. sound_next symbols.Semi first from t.class d st sound) (closes.semicolon first from st.stack t ts takes k) e in
-      (Took ∷ rest.0, rest.1 ∙ append_assoc st.events (Took ∷ []) rest.0, semicolon_made m first from t ts l ls st rest.0 takes sound rest.2)
-  semicolon_used false true first from t st ts l ls h g takes here next sound k e =
-      let f = sound_pop symbols.Semi first from t.class st.stack st refl sound in
-      let after : State = record st { events = st.events ++ Inserted ∷ [] } in
-      let facts : Sound t.class st.stack after = record { chain = f.chain; linked = f.linked; late = f.late; closed = f.closed } in
-      let rest = here after facts (closes.inserted first from st.stack (t ∷ ts) k) e in
-      (Inserted ∷ rest.0, rest.1 ∙ append_assoc st.events (Inserted ∷ []) rest.0, inserted_made m first from (t ∷ ts) (l ∷ ls) st.stack st after rest.0 refl refl refl rest.2)
-  semicolon_used false false first from t st ts l ls h g takes here next sound k e = stopped_not (stuck symbols.Semi st.before t) all e
-
-  kind_used : (kind : Kind) (s : Symbol) (first : Class) (from : ℕ) (t : Lookahead) (st : State) (ts : List Lookahead) (l : Leaf) (ls : List Leaf) (h g : State → Option Outcome)
-      → Here-of t ts (l ∷ ls) h → New-of t h → Next-of ts ls g → LeafIs t.class l → kind_of s ≡ kind → Sound t.class (Want s first from ∷ st.stack) st → K (Want s first from ∷ st.stack) (t ∷ ts)
-      → go_on (use_kind kind s first from t st) h g ≡ Some (Accepted all) → Builds m (Want s first from ∷ st.stack) st (t ∷ ts) (l ∷ ls) all
-  kind_used (TakesToken x) s first from t st ts l ls h g here new next leaf is sound k e =
-      let same = terminal_of s x is in
-      subst (λ s. Builds m (Want s first from ∷ st.stack) st (t ∷ ts) (l ∷ ls) all) same
-      (token_used (takes_class x t.class) x s first from t st ts l ls h g refl next leaf (subst (λ s. Sound t.class (Want s first from ∷ st.stack) st) (sym same) sound) (subst (λ s. K (Want s first from ∷ st.stack) (t ∷ ts)) (sym same) k) e)
-  kind_used Semicolon s first from t st ts l ls h g here new next leaf is sound k e =
-      let same = semicolon_of s is in
-      subst (λ s. Builds m (Want s first from ∷ st.stack) st (t ∷ ts) (l ∷ ls) all) same
-      (semicolon_used (is_among t.class (classes.Semicolon ∷ [])) (counts_as_there t) first from t st ts l ls h g refl here next (subst (λ s. Sound t.class (Want s first from ∷ st.stack) st) (sym same) sound) (subst (λ s. K (Want s first from ∷ st.stack) (t ∷ ts)) (sym same) k)
-      (subst (λ s. go_on (use_kind Semicolon s first from t st) h g ≡ Some (Accepted all)) (sym same) e))
-  kind_used Expands s first from t st ts l ls h g here new next leaf is sound k e = row_used (row_of s t.class t.newline_before) s first from t st ts (l ∷ ls) h g here new refl sound k e
-
-  stack_used : (fs : List Frame) (t : Lookahead) (st : State) (ts : List Lookahead) (l : Leaf) (ls : List Leaf) (h g : State → Option Outcome)
-      → Here-of t ts (l ∷ ls) h → New-of t h → Next-of ts ls g → LeafIs t.class l → Sound t.class fs st → K fs (t ∷ ts)
-      → go_on (act_on fs t st) h g ≡ Some (Accepted all) → Builds m fs st (t ∷ ts) (l ∷ ls) all
-  stack_used [] t st ts l ls h g here new next leaf sound k e = stopped_not (Syntax t.at) all e
-  stack_used (EndMark ∷ fs) t st ts l ls h g here new next leaf sound k e =
-      let facts : Sound t.class fs (record st { stack = fs }) = record { chain = sound.chain; linked = sound.linked; late = sound.late; closed = sound.closed } in
-      here (record st { stack = fs }) facts (closes.mark fs (t ∷ ts) k) e
-  stack_used (Want s first from ∷ fs) t st ts l ls h g here new next leaf sound k e =
-      let facts : Sound t.class (Want s first from ∷ fs) (record st { stack = fs }) = record { chain = sound.chain; linked = sound.linked; late = sound.late; closed = sound.closed } in
-      kind_used (kind_of s) s first from t (record st { stack = fs }) ts l ls h g here new next leaf refl facts k e
-
-  new_token : (n over : ℕ) (t : Lookahead) (ts : List Lookahead) → New-of t (run n over (t ∷ ts))
-  new_token zero over t ts st x first from fs is e = cc
-  new_token (suc n) over t ts st x first from fs is e =
-      one_taken (takes_class x t.class) refl (subst (λ f. go_on (act_on f t st) (run n over (t ∷ ts)) (run n over ts) ≡ Some (Accepted all)) is e)
-    where
-      one_taken : (b : Bool) → takes_class x t.class ≡ b → go_on (use_token b (symbols.Take x) from t (record st { stack = fs })) (run n over (t ∷ ts)) (run n over ts) ≡ Some (Accepted all) → takes_class x t.class ≡ true
-      one_taken true is e = is
-      one_taken false is e = stopped_not _ all e
-
-  same_events : (events : List Event) → Some (Accepted events) ≡ Some (Accepted all) → all ≡ events
-  same_events events e = cc
-
-  finished : (over : ℕ) (fs : List Frame) (st : State) (ls : List Leaf) → LeavesAre [] ls → Some (finish over fs st.events) ≡ Some (Accepted all) → Builds m fs st [] ls all
-  finished over [] st [] leaves e = ([], same_events st.events e ∙ sym (append-nil st.events), λ o arrow agree back. (refl, refl))
-  finished over [] st (l ∷ ls) leaves e = absurd leaves
-  finished over (f ∷ fs) st ls leaves e = stopped_not (Syntax over) all e
-
-  pub builds : (n over : ℕ) (ts : List Lookahead) (ls : List Leaf) (st : State) → LeavesAre ts ls → ((c : Class) (u : Lookahead) (us : List Lookahead) → ts ≡ u ∷ us → c ≡ u.class → Sound c st.stack st) → K st.stack ts → run n over ts st ≡ Some (Accepted all) → Builds m st.stack st ts ls all
-  builds n over [] ls st leaves sound k e = finished over st.stack st ls leaves e
-  builds zero over (t ∷ ts) ls st leaves sound k e = cc
-  builds (suc n) over (t ∷ ts) [] st leaves sound k e = absurd leaves
-  builds (suc n) over (t ∷ ts) (l ∷ ls) st leaves sound k e =
-      stack_used st.stack t st ts l ls (run n over (t ∷ ts)) (run n over ts)
-      (λ st facts k e. builds n over (t ∷ ts) (l ∷ ls) st leaves (λ c u us same is. let now : t.class ≡ u.class = cc in subst (λ c. Sound c st.stack st) (now ∙ sym is) facts) k e)
-      (new_token n over t ts)
-      (λ st facts k e. builds n over ts ls st leaves.1 (λ c u us same is. facts c) k e)
-      leaves.0 (sound t.class t ts refl refl) k e
+pub builds : (m : Maker) → IsMaker m → (K : List Frame → List Lookahead → Type 0) → Closes K → (st : State) (ts : List Lookahead) (es : List Event) → Goes st ts es
+    → (ls : List Leaf) → LeavesAre ts ls → SoundAt ts st → K st.stack ts → Made m st.stack st ts ls es
+builds m maker K closes _ _ _ (Ended st e) [] leaves sound k = λ o arrow agree back. (refl, subst (λ fs. Suits m fs o []) (sym e) refl)
+builds m maker K closes _ _ _ (Ended st e) (l ∷ ls) leaves sound k = absurd leaves
+builds m maker K closes _ _ _ (Unmarked st t ts es d) ls leaves sound k =
+    builds m maker K closes st (t ∷ ts) es d ls leaves (record { chain = sound.chain; linked = sound.linked; late = sound.late; closed = sound.closed }) (closes.mark st.stack (t ∷ ts) k)
+builds m maker K closes _ _ _ (Expanded s first from r st t ts es is may d) ls leaves sound k =
+    let ok = ok_at s t.class t.newline_before r is (λ n. first_taken (with_row r t.class st) (t ∷ ts) es d (terminals.One classes.New) t.class st.taken _ (sym (ap (λ r. (with_row r t.class st).stack) (new_row s t.class t.newline_before r n is)))) in
+    let f = row_facts s first from t.class t.newline_before r st ok (same_sound s first from t.class st sound) in
+    let facts : Sound t.class (with_row r t.class st).stack (with_row r t.class st) = record { chain = f.chain; linked = f.linked; late = f.late; closed = f.closed } in
+    let above = closes.row s first from st.taken st.stack t ts r (is_marked r) is (λ n. first_taken (with_row r t.class st) (t ∷ ts) es d (terminals.One classes.Function) t.class st.taken _ (sym (ap (λ r. (with_row r t.class st).stack) (function_row s t.class t.newline_before r n is)))) k in
+    row_made m maker s first from t ts ls r st es is ok may (same_sound s first from t.class st sound) (builds m maker K closes (with_row r t.class st) (t ∷ ts) es d ls leaves facts above)
+builds m maker K closes _ _ _ (Taken x first from st t ts es takes d) [] leaves sound k = absurd leaves
+builds m maker K closes _ _ _ (Taken x first from st t ts es takes d) (l ∷ ls) leaves sound k =
+    let facts = same_sound (symbols.Take x) first from t.class st sound in
+    token_made m x first from t ts l ls st es takes leaves.0 facts (closes.arrow x first from st.stack t ts takes k)
+    (builds m maker K closes (with_token t.class from st) ts es d ls leaves.1 (sound_at ts (with_token t.class from st) (λ c. sound_next (symbols.Take x) first from t.class c st facts)) (closes.token x first from st.stack t ts takes k))
+builds m maker K closes _ _ _ (Separated first from st t ts es takes d) [] leaves sound k = absurd leaves
+builds m maker K closes _ _ _ (Separated first from st t ts es takes d) (l ∷ ls) leaves sound k =
+    let facts = same_sound symbols.Semi first from t.class st sound in
+    semicolon_made m first from t ts l ls st es takes facts
+    (builds m maker K closes (with_token t.class from st) ts es d ls leaves.1 (sound_at ts (with_token t.class from st) (λ c. sound_next symbols.Semi first from t.class c st facts)) (closes.semicolon first from st.stack t ts takes k))
+builds m maker K closes _ _ _ (Counted first from st t ts es d) ls leaves sound k =
+    let after : State = record st { events = st.events ++ Inserted ∷ [] } in
+    let f = sound_pop symbols.Semi first from t.class st.stack st refl (same_sound symbols.Semi first from t.class st sound) in
+    inserted_made m first from (t ∷ ts) ls st.stack st after es refl refl refl
+    (builds m maker K closes after (t ∷ ts) es d ls leaves (record { chain = f.chain; linked = f.linked; late = f.late; closed = f.closed }) (closes.inserted first from st.stack (t ∷ ts) k))

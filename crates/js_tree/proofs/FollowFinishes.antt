@@ -1,22 +1,23 @@
 -- What a row makes with the limit of what was gathered follows what it makes without it.
-use Rattle.std.proofs.Common.{◌≡◌, ◌≤◌, ◌==◌, ℕ, cond, Bool, true, false, not, ◌&&◌, length, List, [], ◌∷◌, Option, Some, None, Result, Ok, refl, sym, subst, arith}
+use Rattle.std.proofs.Common.{◌≡◌, ◌≤◌, ◌==◌, ◌+◌, ◌-◌, ℕ, max, min, cond, Bool, true, false, not, ◌&&◌, length, List, [], ◌∷◌, ◌++◌, Option, Some, None, Result, Ok, refl, subst, arith}
 use Rattle.std.proofs.lemmas.Bool.{eqb-true}
 use Rattle.bast_base.specs.declared.errors.NameId.{NameId}
 use Rattle.bast_schema.specs.declared.kind.Kind.{Kind}
 use Rattle.bast_schema.specs.declared.kind.Kind.TheVariants as kinds
+use Rattle.bast_schema.specs.Choices.{lexical_let, lexical_const}
 use Rattle.bast_schema.specs.Counts.{join}
 use Rattle.bast_schema.specs.Kinds.{same_kind, counted}
-use Rattle.bast_schema.specs.Tree.{Tree, branch, Datum, child, absent, listed, name, Data, none, more, depth, depth_at, depth_in}
+use Rattle.bast_schema.specs.Tree.{Tree, branch, Datum, child, absent, listed, name, choice, Data, none, more, is_none, depth, depth_at, depth_in}
+use Rattle.bast_schema.proofs.Sums.{depth_join}
 use Rattle.js_grammar.specs.declared.symbols.Symbol.{Symbol}
 use Rattle.scope_facts.specs.Bare.{empty_fields}
 use Rattle.scope_facts.specs.Roles.{shape_of}
 use Rattle.scope_facts.specs.declared.roles.Shape.{Shape}
 use Rattle.scope_facts.specs.declared.roles.Shape.TheVariants.{Parameters}
-use Rattle.js_tree.specs.Finishes.{folds, statement, shorthand, property, filled, fills}
-use Rattle.js_tree.specs.Nodes.{one, two, identifier, first_name, limited, unlimited, one_parameter, parameters_or, parameters_of, no_names, no_parameter_names, contents_of, stands, ended, folded}
-use Rattle.js_tree.specs.Parts.{one_value, node_in, one_node, one_ending}
-use Rattle.js_tree.specs.Leads.{is_leaf}
-use Rattle.js_tree.specs.Results.{◌>>=◌, there, broken}
+use Rattle.js_tree.specs.Finishes.{finish_on, folds, statement, shorthand, property, filled, fills, for_kind, declaration, left_of, bound, binds, declaring, declares, arrow_body, tries, sequence, instead, add_item, is_default, before_default, from_default, switch_of, switch, parameters}
+use Rattle.js_tree.specs.Nodes.{one, two, identifier, first_name, limited, unlimited, parameters_or, parameters_of, no_names, no_parameter_names, contents_of, stands, ended, folded}
+use Rattle.js_tree.specs.Parts.{node_in, one_node, one_ending, last_behind, last_value}
+use Rattle.js_tree.specs.Results.{◌>>=◌, there}
 use Rattle.js_tree.specs.declared.fault.Fault.{Fault}
 use Rattle.js_tree.specs.declared.parts.Part.{Part}
 use Rattle.js_tree.specs.declared.parts.Part.TheVariants as parts
@@ -24,50 +25,50 @@ use Rattle.js_tree.specs.declared.parts.Form.{Form}
 use Rattle.js_tree.specs.declared.parts.Form.TheVariants as forms
 use Rattle.js_tree.specs.declared.parts.Ending.{Ending}
 use Rattle.js_tree.specs.declared.parts.Ending.TheVariants as endings
-use Rattle.js_tree.specs.declared.parts.Item.{Item}
+use Rattle.js_tree.specs.declared.recipe.Declared.{Declared}
+use Rattle.js_tree.specs.declared.recipe.Declared.TheVariants as declared
+use Rattle.js_tree.specs.declared.recipe.Finish.{Finish}
+use Rattle.js_tree.specs.declared.recipe.Finish.TheVariants as finishes
 use Rattle.js_tree.specs.declared.work.Work.{Work}
 use Rattle.js_tree.proofs.Holding.{Each, is_common, is_made, Kept, HoldsEndings, HoldsWork}
 use Rattle.js_tree.proofs.Finishing.{ended_held}
-use Rattle.js_tree.proofs.Following.{Follows, done, failed, known, weaker, andthen, Flat, FlatIn, FlatForm, FlatEnding, FlatEndings, FlatParts, FlatWork, FlatGot, flat_join, node_follows}
-use Rattle.js_tree.proofs.FollowSteps.{one_follows, no_items, no_data, alone, made_follows}
-use Rattle.js_tree.proofs.Laying.{IsAround, AllAround, FirstInstead, Arounds, is_accessor, PlainForm, PlainEnding, AllPlain, PlainEnds, is_statement, SmallIf, RawItems, LeafIf, is_plain, Suits, Laid}
+use Rattle.js_tree.proofs.Following.{deep_form, deep_ending, deep_endings, deep_items, deep_parts, deep_got, Follows, done, failed, andthen, known, either_follows, node, made}
+use Rattle.js_tree.proofs.FollowSteps.{rank_form, rank, ranks, ranks_behind, told, cap, level, leafs, Laid, Flow, Within, rank_form_is, bounds, one_follows, first_follows}
 
 -- an identifier is not deep
 abbrev pub IsIdent : Datum → Type 0
-IsIdent (child t) = (n : ℕ) → identifier t ≡ Some n → Flat t
+IsIdent (child t) = (n : ℕ) → identifier t ≡ Some n → depth t ≤ 512
 IsIdent _ = Unit {0}
-
-second_not : (a b : Bool) → (a && not b) ≡ true → b ≡ false
-second_not false b e = absurd cc
-second_not true true e = absurd cc
-second_not true false e = refl
 
 no_name_of : {A : Type 0} (b : Bool) (o : Option ℕ) (n : ℕ) → b ≡ false → cond b o None ≡ Some n → A
 no_name_of true o n e f = absurd cc
 no_name_of false o n e f = absurd cc
+
+second_not : (a b : Bool) → (a && not b) ≡ true → b ≡ false
+second_not true false e = refl
+second_not _ _ e = absurd cc
 
 one_at_most : (b : Bool) → cond b 1 0 ≤ 1
 one_at_most true = omega arith
 one_at_most false = omega arith
 
 ident_made : (k : Kind) (ds : Data) (t : Tree) → is_made k ≡ true → unlimited k ds ≡ Ok t → IsIdent (child t)
-ident_made k ds t is made = let same : branch k ds ≡ t = cc in subst (λ t. IsIdent (child t)) same (λ n e. no_name_of (same_kind k kinds.IdentifierExpression) (first_name ds) n (second_not (is_common k) (same_kind k kinds.IdentifierExpression) is) e)
+ident_made k ds t is made =
+    let same : branch k ds ≡ t = cc
+    in subst (λ t. IsIdent (child t)) same (λ n e. no_name_of (same_kind k kinds.IdentifierExpression) (first_name ds) n (second_not (is_common k) (same_kind k kinds.IdentifierExpression) is) e)
 
-ident_named : (k : Kind) (n : ℕ) (t : Tree) → unlimited k (one (name n)) ≡ Ok t → IsIdent (child t)
-ident_named k n t made = let same : branch k (one (name n)) ≡ t = cc in subst (λ t. IsIdent (child t)) same (λ i e. omega (arith, one_at_most (counted k)))
+ident_flat : (k : Kind) (ds : Data) (t : Tree) → depth_in ds ≤ 0 → unlimited k ds ≡ Ok t → IsIdent (child t)
+ident_flat k ds t flat made = let same : branch k ds ≡ t = cc in subst (λ t. IsIdent (child t)) same (λ i e. omega (arith, flat, one_at_most (counted k)))
 
-empty_flat : (s : Shape) → depth_in (empty_fields s) ≡ 0
-empty_flat Parameters = refl
-empty_flat _ = refl
-
-ident_scope : (k : Kind) (s : Shape) (t : Tree) → unlimited k (empty_fields s) ≡ Ok t → IsIdent (child t)
-ident_scope k s t made = let same : branch k (empty_fields s) ≡ t = cc in subst (λ t. IsIdent (child t)) same (λ i e. omega (arith, one_at_most (counted k), empty_flat s))
+empty_flat : (s : Shape) → depth_in (empty_fields s) ≤ 0
+empty_flat Parameters = omega arith
+empty_flat _ = omega arith
 
 pub ident_kept : Kept unlimited IsIdent
 ident_kept = record {
   node = λ k ds t is h made. ident_made k ds t is made;
-  scope = λ k t is made. ident_scope k (shape_of k) t made;
-  named = λ k n t is h made. ident_named k n t made;
+  scope = λ k t is made. ident_flat k (empty_fields (shape_of k)) t (empty_flat (shape_of k)) made;
+  named = λ k n t is h made. ident_flat k (one (name n)) t (omega arith) made;
   shorthand = λ ds t u h made again. ident_made kinds.ShorthandProperty (one (child t)) u refl again;
   name_of = λ t n h e. tt;
   list = λ ds h. tt;
@@ -78,243 +79,225 @@ ident_kept = record {
   choices = λ n. tt;
 }
 
-parameter_follows : (C : Type 0) (i : ℕ) → Follows C (λ t. C × Flat t) (λ t. Unit {0}) (one_parameter limited i) (one_parameter unlimited i)
-parameter_follows C i =
-    andthen C (λ t. C × Flat t) (λ t. branch kinds.BindingIdentifier (one (name i)) ≡ t) (λ t. C × Flat t) (λ t. Unit {0}) (limited kinds.BindingIdentifier (one (name i))) (unlimited kinds.BindingIdentifier (one (name i))) _ _ (made_follows C kinds.BindingIdentifier (one (name i)))
-    (λ b j. known (C × Flat b) (λ t. C × Flat t) (λ t. branch kinds.FormalParameters (two (listed (one (child b))) absent) ≡ t) (λ t. Unit {0}) (limited kinds.FormalParameters (two (listed (one (child b))) absent)) (unlimited kinds.FormalParameters (two (listed (one (child b))) absent)) tt
-    (weaker (C × FlatIn (two (listed (one (child b))) absent)) (C × Flat b) (λ t. C × Flat t) (λ t. branch kinds.FormalParameters (two (listed (one (child b))) absent) ≡ t) (limited kinds.FormalParameters (two (listed (one (child b))) absent)) (unlimited kinds.FormalParameters (two (listed (one (child b))) absent))
-    (λ h. let a : depth_in (two (listed (one (child b))) absent) ≤ 512 = h.1 in (h.0, omega (arith, a))) (node_follows C kinds.FormalParameters (two (listed (one (child b))) absent))))
+-- an operand with what is put around it, beside what is as deep as c
+parameters_by : {n : ℕ} (c : ℕ) (t : Tree) (o : Option ℕ) → identifier t ≡ o → IsIdent (child t) → n ≤ max 512 (max c (depth t)) → Follows n (λ u. max c (depth u)) (λ u. Unit {0}) (parameters_or limited t o) (parameters_or unlimited t o)
+parameters_by c t None e ident below = done (omega (arith, below)) tt
+parameters_by c t (Some i) e ident below =
+    let flat = ident i e
+    in andthen (made kinds.BindingIdentifier (one (name i))) (λ b same. node c kinds.FormalParameters (two (listed (one (child b))) absent) (omega (arith, flat, below, same)) tt)
 
-parameters_by : (C : Type 0) (t : Tree) (o : Option ℕ) → identifier t ≡ o → IsIdent (child t) → Follows (C × Flat t) (λ u. C × Flat u) (λ u. Unit {0}) (parameters_or limited t o) (parameters_or unlimited t o)
-parameters_by C t None e ident = done _ _ _ t (λ h. h) tt
-parameters_by C t (Some i) e ident = weaker C (C × Flat t) (λ u. C × Flat u) (λ u. Unit {0}) (one_parameter limited i) (one_parameter unlimited i) (λ c. (c, ident i e)) (parameter_follows C i)
-
-parameters_follow : (C : Type 0) (t : Tree) → IsIdent (child t) → Follows (C × Flat t) (λ u. C × Flat u) (λ u. Unit {0}) (parameters_of limited t) (parameters_of unlimited t)
+parameters_follow : {n : ℕ} (c : ℕ) (t : Tree) → IsIdent (child t) → n ≤ max 512 (max c (depth t)) → Follows n (λ u. max c (depth u)) (λ u. Unit {0}) (parameters_of limited t) (parameters_of unlimited t)
 unfolding parameters_of
-parameters_follow C t ident = parameters_by C t (identifier t) refl ident
+parameters_follow c t ident below = parameters_by c t (identifier t) refl ident below
 
-contents_follow : (C : Type 0) (params : Tree) (body : Data) → Follows (C × Flat params × FlatIn body) (λ u. C × Flat u) (λ u. Unit {0}) (contents_of limited params body) (contents_of unlimited params body)
+contents_follow : {n : ℕ} (c : ℕ) (params : Tree) (body : Data) → n ≤ max 512 (max c (max (depth params) (depth_in body))) → Follows n (λ u. max c (depth u)) (λ u. Unit {0}) (contents_of limited params body) (contents_of unlimited params body)
 unfolding contents_of
-contents_follow C params body =
-    andthen (C × Flat params × FlatIn body) (λ t. (C × Flat params × FlatIn body) × Flat t) (λ t. branch kinds.AssertedParameterScope no_parameter_names ≡ t) (λ u. C × Flat u) (λ u. Unit {0}) (limited kinds.AssertedParameterScope no_parameter_names) (unlimited kinds.AssertedParameterScope no_parameter_names) _ _
-    (made_follows (C × Flat params × FlatIn body) kinds.AssertedParameterScope no_parameter_names)
-    (λ scope js. weaker (C × Flat params × FlatIn body × Flat scope) ((C × Flat params × FlatIn body) × Flat scope) (λ u. C × Flat u) (λ u. Unit {0}) _ _ (λ h. ((h.0, h.1, h.2), h.3))
-    (andthen (C × Flat params × FlatIn body × Flat scope) (λ t. (C × Flat params × FlatIn body × Flat scope) × Flat t) (λ t. branch kinds.AssertedVarScope no_names ≡ t) (λ u. C × Flat u) (λ u. Unit {0}) (limited kinds.AssertedVarScope no_names) (unlimited kinds.AssertedVarScope no_names)
-    (λ vars. limited kinds.FunctionContents (more (child scope) (more (child params) (more (child vars) body)))) (λ vars. unlimited kinds.FunctionContents (more (child scope) (more (child params) (more (child vars) body))))
-    (made_follows (C × Flat params × FlatIn body × Flat scope) kinds.AssertedVarScope no_names)
-    (λ vars jv. known ((C × Flat params × FlatIn body × Flat scope) × Flat vars) (λ u. C × Flat u) (λ u. branch kinds.FunctionContents (more (child scope) (more (child params) (more (child vars) body))) ≡ u) (λ u. Unit {0})
-    (limited kinds.FunctionContents (more (child scope) (more (child params) (more (child vars) body)))) (unlimited kinds.FunctionContents (more (child scope) (more (child params) (more (child vars) body)))) tt
-    (weaker (C × FlatIn (more (child scope) (more (child params) (more (child vars) body)))) ((C × Flat params × FlatIn body × Flat scope) × Flat vars) (λ u. C × Flat u) (λ u. branch kinds.FunctionContents (more (child scope) (more (child params) (more (child vars) body))) ≡ u)
-    (limited kinds.FunctionContents (more (child scope) (more (child params) (more (child vars) body)))) (unlimited kinds.FunctionContents (more (child scope) (more (child params) (more (child vars) body))))
-    (λ h. let a : depth_in (more (child scope) (more (child params) (more (child vars) body))) ≤ 512 = h.1 in ((h.0, omega (arith, a), omega (arith, a), omega (arith, a)), omega (arith, a)))
-    (node_follows C kinds.FunctionContents (more (child scope) (more (child params) (more (child vars) body))))))))
+contents_follow c params body below =
+    andthen (made kinds.AssertedParameterScope no_parameter_names) (λ scope s. andthen (made kinds.AssertedVarScope no_names) (λ vars v.
+    node c kinds.FunctionContents (more (child scope) (more (child params) (more (child vars) body))) (omega (arith, below)) tt))
 
-label_follows : (C : Type 0) (t : Tree) (o : Option ℕ) → identifier t ≡ o → IsIdent (child t) → Follows (C × Flat t) (λ d. C × (depth_at d ≤ 512)) (λ d. Unit {0}) (there o >>= λ n. Ok (name n)) (there o >>= λ n. Ok (name n))
-label_follows C t None e ident = failed _ _ _
-label_follows C t (Some i) e ident = done _ _ _ (name i) (λ h. (h.0, ident i e)) tt
+label_follows : {n : ℕ} (c : ℕ) (t : Tree) (o : Option ℕ) → identifier t ≡ o → IsIdent (child t) → n ≤ max 512 (max c (depth t)) → Follows n (λ d. max c (depth_at d)) (λ d. Unit {0}) (there o >>= λ n. Ok (name n)) (there o >>= λ n. Ok (name n))
+label_follows c t None e ident below = failed
+label_follows c t (Some i) e ident below = let flat = ident i e in done (omega (arith, flat, below)) tt
 
-stands_follows : (C : Type 0) (f : Form) (t : Tree) → IsIdent (child t) → Follows (C × FlatForm f × Flat t) (λ d. C × (depth_at d ≤ 512)) (λ d. Unit {0}) (stands limited f t) (stands unlimited f t)
+stands_follow : {n : ℕ} (c : ℕ) (f : Form) (t : Tree) → IsIdent (child t) → n ≤ max 512 (max c (max (deep_form f) (depth t))) → Follows n (λ d. max c (depth_at d)) (λ d. Unit {0}) (stands limited f t) (stands unlimited f t)
 unfolding stands
-stands_follows C forms.Plain t ident = done _ _ _ (child t) (λ h. (h.0, tt, h.1)) tt
-stands_follows C forms.Parameters t ident =
-    weaker (C × Flat t) (C × Unit {0} × Flat t) (λ d. C × (depth_at d ≤ 512)) (λ d. Unit {0}) _ _ (λ h. (h.0, tt, h.1))
-    (andthen (C × Flat t) (λ p. C × Flat p) (λ p. Unit {0}) (λ d. C × (depth_at d ≤ 512)) (λ d. Unit {0}) (parameters_of limited t) (parameters_of unlimited t) (λ p. Ok (child p)) (λ p. Ok (child p)) (parameters_follow C t ident) (λ p j. done _ _ _ (child p) (λ h. h) tt))
-stands_follows C (forms.Contents body) t ident =
-    weaker ((C × FlatIn body) × Flat t) (C × FlatIn body × Flat t) (λ d. C × (depth_at d ≤ 512)) (λ d. Unit {0}) _ _ (λ h. (h.0.0, h.0.1, h.1))
-    (andthen ((C × FlatIn body) × Flat t) (λ p. (C × FlatIn body) × Flat p) (λ p. Unit {0}) (λ d. C × (depth_at d ≤ 512)) (λ d. Unit {0}) (parameters_of limited t) (parameters_of unlimited t) (λ p. contents_of limited p body >>= λ c. Ok (child c)) (λ p. contents_of unlimited p body >>= λ c. Ok (child c)) (parameters_follow (C × FlatIn body) t ident)
-    (λ p j. weaker (C × Flat p × FlatIn body) ((C × FlatIn body) × Flat p) (λ d. C × (depth_at d ≤ 512)) (λ d. Unit {0}) _ _ (λ h. ((h.0, h.2), h.1))
-    (andthen (C × Flat p × FlatIn body) (λ c. C × Flat c) (λ c. Unit {0}) (λ d. C × (depth_at d ≤ 512)) (λ d. Unit {0}) (contents_of limited p body) (contents_of unlimited p body) (λ c. Ok (child c)) (λ c. Ok (child c)) (contents_follow C p body) (λ c k. done _ _ _ (child c) (λ h. h) tt))))
-stands_follows C forms.Label t ident =
-    weaker (C × Flat t) (C × Unit {0} × Flat t) (λ d. C × (depth_at d ≤ 512)) (λ d. Unit {0}) _ _ (λ h. (h.0, tt, h.1)) (label_follows C t (identifier t) refl ident)
-stands_follows C (forms.Declared ds) t ident = failed _ _ _
+stands_follow c forms.Plain t ident below = done (omega (arith, below)) tt
+stands_follow c forms.Parameters t ident below = andthen (parameters_follow c t ident (omega (arith, below))) (λ p u. done (omega arith) tt)
+stands_follow c (forms.Contents body) t ident below =
+    andthen (parameters_follow (max c (depth_in body)) t ident (omega (arith, below))) (λ p u. andthen (contents_follow c p body (omega arith)) (λ x v. done (omega arith) tt))
+stands_follow c forms.Label t ident below = label_follows c t (identifier t) refl ident (omega (arith, below))
+stands_follow c (forms.Declared ds) t ident below = failed
 
-ended_follows : (C : Type 0) (e : Ending) (t : Tree) → IsAround e → IsIdent (child t) → Follows (C × FlatEnding e × Flat t) (λ u. C × Flat u) (λ u. Unit {0}) (ended limited e t) (ended unlimited e t)
+ended_follows : {n : ℕ} (c : ℕ) (e : Ending) (t : Tree) → rank e ≤ 2 → IsIdent (child t) → n ≤ max 512 (max c (max (deep_ending e) (depth t))) → Follows n (λ u. max c (depth u)) (λ u. Unit {0}) (ended limited e t) (ended unlimited e t)
 unfolding ended
-ended_follows C (endings.Around k form before behind) t around ident =
-    weaker ((C × FlatIn before × FlatIn behind) × FlatForm form × Flat t) (C × (FlatForm form × FlatIn before × FlatIn behind) × Flat t) (λ u. C × Flat u) (λ u. Unit {0}) _ _ (λ h. (h.0.0, (h.1, h.0.1, h.0.2), h.2))
-    (andthen ((C × FlatIn before × FlatIn behind) × FlatForm form × Flat t) (λ d. (C × FlatIn before × FlatIn behind) × (depth_at d ≤ 512)) (λ d. Unit {0}) (λ u. C × Flat u) (λ u. Unit {0}) (stands limited form t) (stands unlimited form t)
-    (λ d. limited k (join before (more d behind))) (λ d. unlimited k (join before (more d behind))) (stands_follows (C × FlatIn before × FlatIn behind) form t ident)
-    (λ d j. known ((C × FlatIn before × FlatIn behind) × (depth_at d ≤ 512)) (λ u. C × Flat u) (λ u. branch k (join before (more d behind)) ≡ u) (λ u. Unit {0}) (limited k (join before (more d behind))) (unlimited k (join before (more d behind))) tt
-    (weaker (C × FlatIn (join before (more d behind))) ((C × FlatIn before × FlatIn behind) × (depth_at d ≤ 512)) (λ u. C × Flat u) (λ u. branch k (join before (more d behind)) ≡ u) (limited k (join before (more d behind))) (unlimited k (join before (more d behind)))
-    (λ h. let s = flat_join before (more d behind) h.1 in let a : depth_in (more d behind) ≤ 512 = s.1 in ((h.0, s.0, omega (arith, a)), omega (arith, a))) (node_follows C k (join before (more d behind))))))
-ended_follows C (endings.Instead u) t around ident = absurd around
+ended_follows c (endings.Around k form before behind) t around ident below =
+    andthen (stands_follow (max c (max (depth_in before) (depth_in behind))) form t ident (omega (arith, below))) (λ d u. node c k (join before (more d behind)) (omega (arith, depth_join)) tt)
+ended_follows c (endings.Instead u) t around ident below = absurd (omega (arith, around))
 
-folded_follows : (C : Type 0) (es : List Ending) (t : Tree) → AllAround es → HoldsEndings IsIdent es → IsIdent (child t) → Follows (C × FlatEndings es × Flat t) (λ u. C × Flat u) (λ u. Unit {0}) (folded limited es t) (folded unlimited es t)
-folded_follows C [] t around idents ident = done _ _ _ t (λ h. (h.0, tt, h.1)) tt
-folded_follows C (e ∷ es) t around idents ident =
-    andthen (C × FlatEndings (e ∷ es) × Flat t) (λ u. (C × FlatEndings es) × Flat u) (λ u. IsIdent (child u)) (λ u. C × Flat u) (λ u. Unit {0}) (ended limited e t) (ended unlimited e t) (folded limited es) (folded unlimited es)
-    (known (C × FlatEndings (e ∷ es) × Flat t) (λ u. (C × FlatEndings es) × Flat u) (λ u. Unit {0}) (λ u. IsIdent (child u)) (ended limited e t) (ended unlimited e t) (ended_held unlimited IsIdent ident_kept e t idents.0 ident)
-    (weaker ((C × FlatEndings es) × FlatEnding e × Flat t) (C × FlatEndings (e ∷ es) × Flat t) (λ u. (C × FlatEndings es) × Flat u) (λ u. Unit {0}) (ended limited e t) (ended unlimited e t) (λ h. (h.0.0, (h.1, h.0.1), h.2)) (ended_follows (C × FlatEndings es) e t around.0 ident)))
-    (λ u j. weaker (C × FlatEndings es × Flat u) ((C × FlatEndings es) × Flat u) (λ v. C × Flat v) (λ v. Unit {0}) (folded limited es u) (folded unlimited es u) (λ h. ((h.0, h.1), h.2)) (folded_follows C es u around.1 idents.1 j))
+folded_follows : (c : ℕ) (es : List Ending) {n : ℕ} (t : Tree) → ranks es ≤ 2 → HoldsEndings IsIdent es → IsIdent (child t) → n ≤ max 512 (max c (max (deep_endings es) (depth t))) → Follows n (λ u. max c (depth u)) (λ u. Unit {0}) (folded limited es t) (folded unlimited es t)
+folded_follows c [] t around idents ident below = done (omega (arith, below)) tt
+folded_follows c (e ∷ es) t around idents ident below =
+    andthen (known (ended_held unlimited IsIdent ident_kept e t idents.0 ident) (ended_follows (max c (deep_endings es)) e t (omega (arith, around)) ident (omega (arith, below))))
+    (λ u j. folded_follows c es u (omega (arith, around)) idents.1 j.1 (omega arith))
 
 -- where an operand that is not deep is replaced, nothing deep is lost
-replaced_follows : (C : Type 0) (es : List Ending) (t : Tree) → FirstInstead es → HoldsEndings IsIdent es → IsIdent (child t) → Flat t → Follows (C × FlatEndings es × Flat t) (λ u. C × Flat u) (λ u. Unit {0}) (folded limited es t) (folded unlimited es t)
+replaced_follows : {n : ℕ} (c : ℕ) (es : List Ending) (t : Tree) → ranks_behind es ≤ 2 → HoldsEndings IsIdent es → IsIdent (child t) → depth t ≤ 512 → n ≤ max 512 (max c (max (deep_endings es) (depth t)))
+    → Follows n (λ u. max c (depth u)) (λ u. Unit {0}) (folded limited es t) (folded unlimited es t)
 unfolding ended
-replaced_follows C [] t first idents ident flat = done _ _ _ t (λ h. (h.0, tt, h.1)) tt
-replaced_follows C (endings.Around k form before behind ∷ es) t first idents ident flat = folded_follows C (endings.Around k form before behind ∷ es) t (tt, first) idents ident
-replaced_follows C (endings.Instead u ∷ es) t first idents ident flat =
-    weaker (C × FlatEndings es × Flat u) (C × FlatEndings (endings.Instead u ∷ es) × Flat t) (λ v. C × Flat v) (λ v. Unit {0}) _ _ (λ h. (h.0, (h.2, h.1), flat)) (folded_follows C es u first idents.1 idents.0)
+replaced_follows c [] t behind idents ident flat below = done (omega (arith, below)) tt
+replaced_follows c (endings.Around k form before after ∷ es) t behind idents ident flat below = folded_follows c (endings.Around k form before after ∷ es) t (omega (arith, behind, rank_form_is form)) idents ident below
+replaced_follows c (endings.Instead u ∷ es) t behind idents ident flat below = folded_follows c es u behind idents.1 idents.0 (omega (arith, flat, below))
 
--- what is given on either side of a test
-pub either_follows : {A : Type 0} (S : Type 0) (T K : A → Type 0) (b : Bool) (r q s u : Result A Fault) → (b ≡ true → Follows S T K r q) → (b ≡ false → Follows S T K s u) → Follows S T K (cond b r s) (cond b q u)
-either_follows S T K true r q s u h k = h refl
-either_follows S T K false r q s u h k = k refl
+-- parts that are taken apart
+node_follows : {n : ℕ} (ds : Data) (d : Datum) → ds ≡ one d → depth_in ds ≡ depth_at d → Follows n (λ t. n) (λ t. (ds ≡ one (child t)) × (depth_in ds ≡ depth t)) (node_in d) (node_in d)
+node_follows ds (child t) is deep = done (omega arith) (is, deep)
+node_follows ds _ is deep = failed
 
-pub one_node_follows : (C : Type 0) (ds : Data) → Follows (C × FlatIn ds) (λ t. C × Flat t) (λ t. ds ≡ one (child t)) (one_node ds) (one_node ds)
-one_node_follows C ds =
-    andthen (C × FlatIn ds) (λ d. C × (depth_at d ≤ 512)) (λ d. ds ≡ one d) (λ t. C × Flat t) (λ t. ds ≡ one (child t)) (one_value ds) (one_value ds) node_in node_in (one_follows C ds) (λ d j. by_node C d ds j)
-  where
-    by_node : (C : Type 0) (d : Datum) (ds : Data) → ds ≡ one d → Follows (C × (depth_at d ≤ 512)) (λ t. C × Flat t) (λ t. ds ≡ one (child t)) (node_in d) (node_in d)
-    by_node C (child t) ds j = done _ _ _ t (λ h. h) j
-    by_node C _ ds j = failed _ _ _
+pub one_node_follows : {n : ℕ} (ds : Data) → Follows n (λ t. n) (λ t. (ds ≡ one (child t)) × (depth_in ds ≡ depth t)) (one_node ds) (one_node ds)
+one_node_follows ds = andthen (one_follows ds) (λ d is. node_follows ds d is.0 is.1)
 
-none_left : (f : Ending) (fs : List Ending) → length (f ∷ fs) ≡ 0 → ⊥
-none_left f fs e = omega arith
+none_left : (es : List Ending) → (length es == 0) ≡ true → (deep_endings es ≤ 0) × (ranks es ≤ 0)
+none_left [] is = omega arith
+none_left (e ∷ es) is = let some = eqb-true (length (e ∷ es)) 0 is in absurd (omega (arith, some))
 
-no_more : (es : List Ending) → (length es == 0) ≡ true → FlatEndings es
-no_more [] is = tt
-no_more (f ∷ fs) is = absurd (none_left f fs (eqb-true (length (f ∷ fs)) 0 is))
+one_ending_follows : {n : ℕ} (es : List Ending) → Follows n (λ e. n) (λ e. (deep_endings es ≡ deep_ending e) × (ranks es ≡ rank e)) (one_ending es) (one_ending es)
+one_ending_follows [] = failed
+one_ending_follows (e ∷ es) = either_follows (length es == 0) (λ is. let left = none_left es is in done (omega arith) (omega (arith, left))) (λ is. failed)
 
-pub one_ending_follows : (C : Type 0) (es : List Ending) → Follows (C × FlatEndings es) (λ e. C × FlatEnding e) (λ e. (AllPlain es → PlainEnding e)) (one_ending es) (one_ending es)
-one_ending_follows C [] = failed _ _ _
-one_ending_follows C (e ∷ es) =
-    either_follows (C × FlatEndings (e ∷ es)) (λ f. C × FlatEnding f) (λ f. (AllPlain (e ∷ es) → PlainEnding f)) (length es == 0) (Ok e) (Ok e) broken broken
-    (λ is. done _ _ _ e (λ h. (h.0, (h.1, no_more es is))) (λ plain. plain.0)) (λ is. failed _ _ _)
+behind_depth : (d : Datum) (ds : Data) → depth_in (more d ds) ≡ max (depth_in (last_behind d ds).0) (depth_at (last_behind d ds).1)
+behind_depth d none = omega arith
+behind_depth d (more e es) = omega (arith, behind_depth e es)
 
-pub no_endings : (es : List Ending) → es ≡ [] → FlatEndings es
-no_endings es e = subst FlatEndings (sym e) tt
+last_follows : {n : ℕ} (ds : Data) → Follows n (λ l. n) (λ l. depth_in ds ≡ max (depth_in l.0) (depth_at l.1)) (last_value ds) (last_value ds)
+last_follows none = failed
+last_follows (more d ds) = done (omega arith) (behind_depth d ds)
 
--- the parts of a row's own symbol
-pub record Head (s : Symbol) : Type 0 where
-  pub no_leaf : is_leaf s ≡ false
+flat_ranks : (es : List Ending) → ranks es ≤ 0 → deep_endings es ≤ 0
+flat_ranks [] h = omega arith
+flat_ranks (endings.Around k form before behind ∷ es) h = let r = rank_form_is form in absurd (omega (arith, h, r))
+flat_ranks (endings.Instead t ∷ es) h = absurd (omega (arith, h))
 
-pub head_values : (s : Symbol) → Head s → (ds : Data) (raw : Option NameId) → SmallIf (is_statement s) raw ds → Suits s (parts.Values ds raw)
-head_values s head ds raw small = record { leaf = subst (λ b. LeafIf b (parts.Values ds raw)) (sym head.no_leaf) tt; small = small; plain = tt; around = tt }
+behind_ranks : (es : List Ending) → ranks_behind es ≤ ranks es
+behind_ranks [] = omega arith
+behind_ranks (e ∷ es) = omega arith
 
-pub head_items : (s : Symbol) → Head s → (is : List Item) → RawItems is → Suits s (parts.Items is)
-head_items s head is small = record { leaf = subst (λ b. LeafIf b (parts.Items is)) (sym head.no_leaf) tt; small = small; plain = tt; around = tt }
+plain_flat : (f : Form) → rank_form f ≤ 1 → deep_form f ≤ 0
+plain_flat forms.Plain h = omega arith
+plain_flat _ h = absurd (omega (arith, h))
 
-plain_ends : (p : Bool) (es : List Ending) → (p ≡ true → AllPlain es) → PlainEnds p es
-plain_ends true es h = h refl
-plain_ends false es h = tt
-
-pub first_of_all : (es : List Ending) → AllAround es → FirstInstead es
-first_of_all [] h = tt
-first_of_all (e ∷ es) h = h.1
-
-all_arounds : (a : Bool) (es : List Ending) → AllAround es → Arounds a es
-all_arounds true es h = first_of_all es h
-all_arounds false es h = h
-
-pub head_endings : (s : Symbol) → Head s → (es : List Ending) → (is_plain s ≡ true → AllPlain es) → AllAround es → Suits s (parts.Endings es)
-head_endings s head es plain around = record { leaf = subst (λ b. LeafIf b (parts.Endings es)) (sym head.no_leaf) tt; small = tt; plain = plain_ends (is_plain s) es plain; around = all_arounds (is_accessor s) es around }
-
-abbrev pub Finishes : Symbol → List Symbol → Type 0 → Result (List Part) Fault → Result (List Part) Fault → Type 0
-Finishes s outer S r q = Follows S FlatParts (Laid (s ∷ outer)) r q
-
-pub tree_end : (s : Symbol) (outer : List Symbol) (ps : List Part) (S : Type 0) (K : Tree → Type 0) (r q : Result Tree Fault) → Head s → Laid outer ps → Follows S (λ t. FlatParts ps × Flat t) K r q
-    → Finishes s outer S (r >>= λ t. Ok (parts.Values (one (child t)) None ∷ ps)) (q >>= λ t. Ok (parts.Values (one (child t)) None ∷ ps))
-tree_end s outer ps S K r q head laid h =
-    andthen S (λ t. FlatParts ps × Flat t) K FlatParts (Laid (s ∷ outer)) r q (λ t. Ok (parts.Values (one (child t)) None ∷ ps)) (λ t. Ok (parts.Values (one (child t)) None ∷ ps)) h
-    (λ t j. done _ _ _ (parts.Values (one (child t)) None ∷ ps) (λ z. (z.1, alone (child t) z.0)) (head_values s head (one (child t)) None tt, laid))
-
-pub endings_end : (s : Symbol) (outer : List Symbol) (ps : List Part) (S : Type 0) (es : List Ending) → Head s → Laid outer ps → (is_plain s ≡ true → AllPlain es) → AllAround es → (FlatEndings es × FlatParts ps → S)
-    → Finishes s outer S (Ok (parts.Endings es ∷ ps)) (Ok (parts.Endings es ∷ ps))
-endings_end s outer ps S es head laid plain around back = done _ _ _ (parts.Endings es ∷ ps) (λ z. back (z.0, z.1)) (head_endings s head es plain around, laid)
-
--- fields that are empty
-pub record Spare (w : Work) : Type 0 where
-  pub held : w.held ≡ none
-  pub directives : w.directives ≡ none
-  pub items : w.items ≡ []
-
-pub with_spare : (w : Work) → Spare w → FlatIn w.values → FlatEndings w.endings → FlatWork w
-with_spare w spare values endings = record { values = values; held = no_data w.held spare.held; directives = no_data w.directives spare.directives; endings = endings; items = no_items w.items spare.items }
-
-pub small_up : (b : Bool) (raw : Option NameId) (ds : Data) → SmallIf false raw ds → SmallIf b raw ds
-small_up false raw ds h = h
-small_up true None ds h = tt
-small_up true (Some n) ds h = omega (arith, h)
+told_up : (o : Option NameId) (k d e : ℕ) → d ≤ k + e → told o d ≤ k + told o e
+told_up None k d e h = omega arith
+told_up (Some n) k d e h = omega (arith, h)
 
 ident_of : (ds : Data) (t : Tree) → ds ≡ one (child t) → Each IsIdent ds → IsIdent (child t)
-ident_of ds t e h = let r = subst (Each IsIdent) e h in r.0
+ident_of ds t e h = (subst (Each IsIdent) e h).0
 
-pub folds_finish : (s : Symbol) (outer : List Symbol) (w : Work) (ps : List Part) → Head s → Laid outer ps → Spare w → AllAround w.endings → HoldsWork IsIdent w → SmallIf false w.raw w.values
-    → Finishes s outer (FlatGot (w, ps)) (folds limited w ps) (folds unlimited w ps)
-unfolding folds
-folds_finish s outer w ps head laid spare around idents small =
-    either_follows (FlatGot (w, ps)) FlatParts (Laid (s ∷ outer)) (length w.endings == 0) (Ok (parts.Values w.values w.raw ∷ ps)) (Ok (parts.Values w.values w.raw ∷ ps)) _ _
-    (λ is. done _ _ _ (parts.Values w.values w.raw ∷ ps) (λ z. (with_spare w spare z.0 (no_more w.endings is), z.1)) (head_values s head w.values w.raw (small_up (is_statement s) w.raw w.values small), laid))
-    (λ is. weaker ((FlatEndings w.endings × FlatParts ps) × FlatIn w.values) (FlatGot (w, ps)) FlatParts (Laid (s ∷ outer)) _ _ (λ h. (with_spare w spare h.1 h.0.0, h.0.1))
-    (andthen ((FlatEndings w.endings × FlatParts ps) × FlatIn w.values) (λ t. (FlatEndings w.endings × FlatParts ps) × Flat t) (λ t. w.values ≡ one (child t)) FlatParts (Laid (s ∷ outer)) (one_node w.values) (one_node w.values)
-    (λ t. folded limited w.endings t >>= λ t. Ok (parts.Values (one (child t)) None ∷ ps)) (λ t. folded unlimited w.endings t >>= λ t. Ok (parts.Values (one (child t)) None ∷ ps)) (one_node_follows (FlatEndings w.endings × FlatParts ps) w.values)
-    (λ t j. tree_end s outer ps ((FlatEndings w.endings × FlatParts ps) × Flat t) (λ u. Unit {0}) (folded limited w.endings t) (folded unlimited w.endings t) head laid
-    (weaker (FlatParts ps × FlatEndings w.endings × Flat t) ((FlatEndings w.endings × FlatParts ps) × Flat t) (λ u. FlatParts ps × Flat u) (λ u. Unit {0}) _ _ (λ h. ((h.1, h.0), h.2))
-    (folded_follows (FlatParts ps) w.endings t around idents.endings (ident_of w.values t j idents.values))))))
-
-statement_depth : (raw : Option NameId) (ds : Data) (t : Tree) → branch kinds.ExpressionStatement ds ≡ t → SmallIf false raw ds → SmallIf true raw (one (child t))
-statement_depth None ds t e small = tt
-statement_depth (Some n) ds t e small = let a : depth_in ds ≤ 1 = small in let d : depth (branch kinds.ExpressionStatement ds) ≤ 2 = omega (arith, a) in let r : depth t ≤ 2 = subst (λ t. depth t ≤ 2) e d in omega (arith, r)
-
-pub statement_finish : (s : Symbol) (outer : List Symbol) (w : Work) (ps : List Part) → is_statement s ≡ true → Head s → Laid outer ps → Spare w → AllAround w.endings → HoldsWork IsIdent w → SmallIf false w.raw w.values
-    → Finishes s outer (FlatGot (w, ps)) (statement limited w ps) (statement unlimited w ps)
-unfolding statement
-statement_finish s outer w ps is_one head laid spare around idents small =
-    either_follows (FlatGot (w, ps)) FlatParts (Laid (s ∷ outer)) (length w.endings == 0) (limited kinds.ExpressionStatement w.values >>= λ t. Ok (parts.Values (one (child t)) w.raw ∷ ps)) (unlimited kinds.ExpressionStatement w.values >>= λ t. Ok (parts.Values (one (child t)) w.raw ∷ ps)) (folds limited w ps) (folds unlimited w ps)
-    (λ is. andthen (FlatGot (w, ps)) (λ t. FlatParts ps × Flat t) (λ t. branch kinds.ExpressionStatement w.values ≡ t) FlatParts (Laid (s ∷ outer)) (limited kinds.ExpressionStatement w.values) (unlimited kinds.ExpressionStatement w.values) (λ t. Ok (parts.Values (one (child t)) w.raw ∷ ps)) (λ t. Ok (parts.Values (one (child t)) w.raw ∷ ps))
-    (weaker (FlatParts ps × FlatIn w.values) (FlatGot (w, ps)) (λ t. FlatParts ps × Flat t) (λ t. branch kinds.ExpressionStatement w.values ≡ t) (limited kinds.ExpressionStatement w.values) (unlimited kinds.ExpressionStatement w.values) (λ h. (with_spare w spare h.1 (no_more w.endings is), h.0)) (node_follows (FlatParts ps) kinds.ExpressionStatement w.values))
-    (λ t j. done _ _ _ (parts.Values (one (child t)) w.raw ∷ ps) (λ z. (z.1, alone (child t) z.0))
-    (head_values s head (one (child t)) w.raw (subst (λ b. SmallIf b w.raw (one (child t))) (sym is_one) (statement_depth w.raw w.values t j small)), laid)))
-    (λ is. folds_finish s outer w ps head laid spare around idents small)
-
-shorthand_follows : (C : Type 0) (ds : Data) → Follows (C × FlatIn ds) (λ u. C × Flat u) (λ u. Unit {0}) (shorthand limited ds) (shorthand unlimited ds)
-shorthand_follows C ds =
-    andthen (C × FlatIn ds) (λ t. C × Flat t) (λ t. branch kinds.IdentifierExpression ds ≡ t) (λ u. C × Flat u) (λ u. Unit {0}) (limited kinds.IdentifierExpression ds) (unlimited kinds.IdentifierExpression ds) (λ t. limited kinds.ShorthandProperty (one (child t))) (λ t. unlimited kinds.ShorthandProperty (one (child t))) (node_follows C kinds.IdentifierExpression ds)
-    (λ t j. known (C × Flat t) (λ u. C × Flat u) (λ u. branch kinds.ShorthandProperty (one (child t)) ≡ u) (λ u. Unit {0}) (limited kinds.ShorthandProperty (one (child t))) (unlimited kinds.ShorthandProperty (one (child t))) tt
-    (weaker (C × FlatIn (one (child t))) (C × Flat t) (λ u. C × Flat u) (λ u. branch kinds.ShorthandProperty (one (child t)) ≡ u) (limited kinds.ShorthandProperty (one (child t))) (unlimited kinds.ShorthandProperty (one (child t))) (λ h. (h.0, alone (child t) h.1)) (node_follows C kinds.ShorthandProperty (one (child t)))))
-
-property_name_flat : (ds : Data) (t : Tree) → branch kinds.LiteralPropertyName ds ≡ t → depth_in ds ≤ 1 → Flat t
-property_name_flat ds t e small = let d : depth (branch kinds.LiteralPropertyName ds) ≤ 512 = omega (arith, small) in subst Flat e d
+-- what is made of what was gathered
+shorthand_follows : {n : ℕ} (c : ℕ) (ds : Data) → n ≤ max 512 (max c (depth_in ds)) → Follows n (λ u. max c (depth u)) (λ u. Unit {0}) (shorthand limited ds) (shorthand unlimited ds)
+shorthand_follows c ds below = andthen (made kinds.IdentifierExpression ds) (λ t same. node c kinds.ShorthandProperty (one (child t)) (omega (arith, below, same)) tt)
 
 property_ident : (ds : Data) (t : Tree) → branch kinds.LiteralPropertyName ds ≡ t → IsIdent (child t)
 property_ident ds t e = subst (λ t. IsIdent (child t)) e (λ n f. no_name_of false (first_name ds) n refl f)
 
-pub property_finish : (s : Symbol) (outer : List Symbol) (w : Work) (ps : List Part) → Head s → Laid outer ps → Spare w → FirstInstead w.endings → HoldsWork IsIdent w → depth_in w.values ≤ 1
-    → Finishes s outer (FlatGot (w, ps)) (property limited w ps) (property unlimited w ps)
-unfolding property
-property_finish s outer w ps head laid spare first idents small =
-    either_follows (FlatGot (w, ps)) FlatParts (Laid (s ∷ outer)) (length w.endings == 0) (shorthand limited w.values >>= λ t. Ok (parts.Values (one (child t)) None ∷ ps)) (shorthand unlimited w.values >>= λ t. Ok (parts.Values (one (child t)) None ∷ ps)) _ _
-    (λ is. tree_end s outer ps (FlatGot (w, ps)) (λ u. Unit {0}) (shorthand limited w.values) (shorthand unlimited w.values) head laid
-    (weaker (FlatParts ps × FlatIn w.values) (FlatGot (w, ps)) (λ u. FlatParts ps × Flat u) (λ u. Unit {0}) (shorthand limited w.values) (shorthand unlimited w.values) (λ h. (with_spare w spare h.1 (no_more w.endings is), h.0)) (shorthand_follows (FlatParts ps) w.values)))
-    (λ is. andthen (FlatGot (w, ps)) (λ t. (FlatEndings w.endings × FlatParts ps) × Flat t) (λ t. branch kinds.LiteralPropertyName w.values ≡ t) FlatParts (Laid (s ∷ outer)) (limited kinds.LiteralPropertyName w.values) (unlimited kinds.LiteralPropertyName w.values)
-    (λ t. folded limited w.endings t >>= λ t. Ok (parts.Values (one (child t)) None ∷ ps)) (λ t. folded unlimited w.endings t >>= λ t. Ok (parts.Values (one (child t)) None ∷ ps))
-    (weaker ((FlatEndings w.endings × FlatParts ps) × FlatIn w.values) (FlatGot (w, ps)) (λ t. (FlatEndings w.endings × FlatParts ps) × Flat t) (λ t. branch kinds.LiteralPropertyName w.values ≡ t) (limited kinds.LiteralPropertyName w.values) (unlimited kinds.LiteralPropertyName w.values) (λ h. (with_spare w spare h.1 h.0.0, h.0.1)) (node_follows (FlatEndings w.endings × FlatParts ps) kinds.LiteralPropertyName w.values))
-    (λ t j. tree_end s outer ps ((FlatEndings w.endings × FlatParts ps) × Flat t) (λ u. Unit {0}) (folded limited w.endings t) (folded unlimited w.endings t) head laid
-    (weaker (FlatParts ps × FlatEndings w.endings × Flat t) ((FlatEndings w.endings × FlatParts ps) × Flat t) (λ u. FlatParts ps × Flat u) (λ u. Unit {0}) _ _ (λ h. ((h.1, h.0), h.2))
-    (replaced_follows (FlatParts ps) w.endings t first idents.endings (property_ident w.values t j) (property_name_flat w.values t j small)))))
+declaration_follows : {n : ℕ} (c : ℕ) (how : Declared) (ds : Data) → n ≤ max 512 (max c (depth_in ds)) → Follows n (λ u. max c (depth u)) (λ u. Unit {0}) (declaration limited how ds) (declaration unlimited how ds)
+declaration_follows c declared.Var ds below = node c kinds.VarDeclaration (one (listed ds)) (omega (arith, below)) tt
+declaration_follows c declared.Let ds below = node c kinds.LexicalDeclaration (two (choice lexical_let) (listed ds)) (omega (arith, below)) tt
+declaration_follows c declared.Const ds below = node c kinds.LexicalDeclaration (two (choice lexical_const) (listed ds)) (omega (arith, below)) tt
 
-pub plain_flat : (f : Form) → PlainForm f → FlatForm f
-plain_flat forms.Plain h = tt
-plain_flat forms.Parameters h = tt
-plain_flat (forms.Contents body) h = absurd h
-plain_flat forms.Label h = tt
-plain_flat (forms.Declared ds) h = absurd h
+left_follows : {n : ℕ} (c : ℕ) (how : Declared) (b : Datum) (f : Form) → n ≤ max 512 (max c (max (depth_at b) (deep_form f))) → Follows n (λ u. max c (depth u)) (λ u. Unit {0}) (left_of limited how b f) (left_of unlimited how b f)
+left_follows c how b forms.Plain below = node c kinds.ForInOfBinding (two (choice (for_kind how)) b) (omega (arith, below)) tt
+left_follows c how b (forms.Declared ds) below =
+    andthen (first_follows ds) (λ f all. andthen (made kinds.VariableDeclarator (two b f.0)) (λ d same. declaration_follows c how (more (child d) f.1) (omega (arith, below, all, same))))
+left_follows c how b _ below = failed
 
-pub not_plain : (p : Bool) → p ≡ false → {A : Type 0} → p ≡ true → A
-not_plain true e f = absurd cc
-not_plain false e f = absurd cc
+cases_by : (b : Bool) (d : Datum) (ds before behind : Data) → depth_in ds ≤ max (depth_in before) (depth_in behind)
+    → depth_in (more d ds) ≤ max (depth_in (cond b none (more d before))) (depth_in (cond b (more d ds) behind))
+cases_by true d ds before behind h = omega arith
+cases_by false d ds before behind h = omega (arith, h)
 
-filled_finish : (s : Symbol) (outer : List Symbol) (e : Ending) (d : Datum) (ps : List Part) → is_plain s ≡ false → Head s → Laid outer ps → PlainEnding e → Finishes s outer (FlatParts ps × FlatEnding e × (depth_at d ≤ 512)) (filled e d ps) (filled e d ps)
-filled_finish s outer (endings.Around k form before behind) d ps np head laid plain =
-    endings_end s outer ps (FlatParts ps × FlatEnding (endings.Around k form before behind) × (depth_at d ≤ 512)) (endings.Around k forms.Plain (join before (more d behind)) none ∷ []) head laid (not_plain (is_plain s) np) (tt, tt)
-    (λ z. let s = flat_join before (more d behind) z.0.0.1 in let a : depth_in (more d behind) ≤ 512 = s.1 in (z.1, (plain_flat form plain, s.0, omega (arith, a)), omega (arith, a)))
-filled_finish s outer (endings.Instead t) d ps np head laid plain = failed _ _ _
+cases_depth : (ds : Data) → depth_in ds ≤ max (depth_in (before_default ds)) (depth_in (from_default ds))
+cases_depth none = omega arith
+cases_depth (more d ds) = cases_by (is_default d) d ds (before_default ds) (from_default ds) (cases_depth ds)
 
-pub fills_finish : (s : Symbol) (outer : List Symbol) (w : Work) (ps : List Part) → is_plain s ≡ false → Head s → Laid outer ps → Spare w → AllPlain w.endings → Finishes s outer (FlatGot (w, ps)) (fills w ps) (fills w ps)
-unfolding fills
-fills_finish s outer w ps np head laid spare plain =
-    weaker ((FlatParts ps × FlatEndings w.endings) × FlatIn w.values) (FlatGot (w, ps)) FlatParts (Laid (s ∷ outer)) _ _ (λ h. (with_spare w spare h.1 h.0.1, h.0.0))
-    (andthen ((FlatParts ps × FlatEndings w.endings) × FlatIn w.values) (λ d. (FlatParts ps × FlatEndings w.endings) × (depth_at d ≤ 512)) (λ d. w.values ≡ one d) FlatParts (Laid (s ∷ outer)) (one_value w.values) (one_value w.values) (λ d. one_ending w.endings >>= λ e. filled e d ps) (λ d. one_ending w.endings >>= λ e. filled e d ps) (one_follows (FlatParts ps × FlatEndings w.endings) w.values)
-    (λ d j. weaker ((FlatParts ps × (depth_at d ≤ 512)) × FlatEndings w.endings) ((FlatParts ps × FlatEndings w.endings) × (depth_at d ≤ 512)) FlatParts (Laid (s ∷ outer)) _ _ (λ h. ((h.0.0, h.1), h.0.1))
-    (andthen ((FlatParts ps × (depth_at d ≤ 512)) × FlatEndings w.endings) (λ e. (FlatParts ps × (depth_at d ≤ 512)) × FlatEnding e) (λ e. (AllPlain w.endings → PlainEnding e)) FlatParts (Laid (s ∷ outer)) (one_ending w.endings) (one_ending w.endings) (λ e. filled e d ps) (λ e. filled e d ps) (one_ending_follows (FlatParts ps × (depth_at d ≤ 512)) w.endings)
-    (λ e k. weaker (FlatParts ps × FlatEnding e × (depth_at d ≤ 512)) ((FlatParts ps × (depth_at d ≤ 512)) × FlatEnding e) FlatParts (Laid (s ∷ outer)) _ _ (λ h. ((h.0, h.2), h.1)) (filled_finish s outer e d ps np head laid (k plain))))))
+switch_follows : {n : ℕ} (c : ℕ) (held before behind : Data) → n ≤ max 512 (max c (max (depth_in held) (max (depth_in before) (depth_in behind)))) → Follows n (λ u. max c (depth u)) (λ u. Unit {0}) (switch_of limited held before behind) (switch_of unlimited held before behind)
+switch_follows c held before none below = node c kinds.SwitchStatement (join held (one (listed before))) (omega (arith, below, depth_join)) tt
+switch_follows c held before (more d behind) below = node c kinds.SwitchStatementWithDefault (join held (more (listed before) (two d (listed behind)))) (omega (arith, below, depth_join)) tt
+
+none_flat : (ds : Data) → is_none ds ≡ true → depth_in ds ≤ 0
+none_flat none e = omega arith
+none_flat (more d ds) e = absurd cc
+
+-- what a finish would lose, and what of the row's own part its symbol does not allow: nothing of it is allowed
+abbrev pub waste : Symbol → Finish → List Symbol → Flow → ℕ
+waste s finishes.Same (x ∷ []) b = (cap x - cap s) + (level x - level s) + b.values + b.held + b.directives + b.items + b.ends
+waste s finishes.Values [] b = b.held + b.directives + b.items + b.ends
+waste s finishes.Folds [] b = b.held + b.directives + b.items + (b.ends - 2) + (b.operand - 1)
+waste s (finishes.Ends k) [] b = b.directives + b.items + (b.ends - 2) + (b.ends - level s)
+waste s (finishes.EndsParameters k) [] b = b.directives + b.items + (b.ends - 2) + (max 2 b.ends - level s)
+waste s (finishes.EndsLabel k) [] b = b.directives + b.items + (b.ends - 2) + (max 2 b.ends - level s)
+waste s finishes.Endings [] b = b.values + b.held + b.directives + b.items + (b.ends - level s) + (min b.ends b.behind - 2)
+waste s finishes.Fills [] b = b.held + b.directives + b.items + (b.ends - 1)
+waste s (finishes.Binds how) [] b = b.held + b.directives + b.items
+waste s finishes.Declares [] b = b.held + b.directives + b.items + (b.ends - 1) + (2 - level s)
+waste s finishes.ArrowBody [] b = b.held + b.items + b.ends + (2 - level s)
+waste s finishes.Tries [] b = b.directives + b.items + (b.ends - 2) + (b.ends - level s)
+waste s finishes.Sequence [] b = b.directives + b.items + b.ends + (b.held_operand - 1)
+waste s finishes.Statement [] b = b.held + b.directives + b.items + (b.ends - 2) + (b.operand - 1) + (2 - cap s)
+waste s finishes.Property [] b = b.values + b.held + b.directives + b.items + (b.behind - 2)
+waste s finishes.Instead [] b = b.held + b.directives + b.items + b.ends + (3 - level s)
+waste s finishes.Items [] b = b.held + b.directives + b.ends + (b.operand - 2) + (2 - cap s)
+waste s finishes.NoItems [] b = b.values + b.held + b.directives + b.items + b.ends
+waste s finishes.Switch [] b = b.directives + b.items + b.ends
+waste s finishes.Parameters [] b = b.held + b.directives + b.items + b.ends
+waste s _ _ b = 1
+
+module _ (s : Symbol) (outer : List Symbol) (ps : List Part) (solid : 1 ≤ leafs s) (laid : Laid outer ps) where
+  abbrev Finishes : ℕ → Result (List Part) Fault → Result (List Part) Fault → Type 0
+  Finishes n r q = Follows n deep_parts (Laid (s ∷ outer)) r q
+
+  values_end : {n : ℕ} {r q : Result Tree Fault} → Follows n (λ t. max (deep_parts ps) (depth t)) (λ t. Unit {0}) r q → Finishes n (r >>= λ t. Ok (parts.Values (one (child t)) None ∷ ps)) (q >>= λ t. Ok (parts.Values (one (child t)) None ∷ ps))
+  values_end h = andthen h (λ t k. done (omega arith) (omega (arith, solid), laid))
+
+  folds_finish : (b : Flow) (w : Work) → waste s finishes.Folds [] b ≡ 0 → Within b w → HoldsWork IsIdent w → Finishes (deep_got (w, ps)) (folds limited w ps) (folds unlimited w ps)
+  unfolding folds
+  folds_finish b w kept e idents =
+      either_follows (length w.endings == 0) (λ is. let left = none_left w.endings is in done (omega (arith, kept, e, left)) (omega (arith, kept, e, solid, bounds s), laid))
+      (λ is. andthen (one_node_follows w.values) (λ t one. values_end (folded_follows (deep_parts ps) w.endings t (omega (arith, kept, e)) idents.endings (ident_of w.values t one.0 idents.values) (omega (arith, kept, e, one.1)))))
+
+  filled_finish : {n : ℕ} (e : Ending) (d : Datum) → rank e ≤ 1 → n ≤ max 512 (max (deep_parts ps) (max (deep_ending e) (depth_at d))) → Finishes n (filled e d ps) (filled e d ps)
+  filled_finish (endings.Around k form before behind) d plain below = let flat = plain_flat form plain in done (omega (arith, below, flat, depth_join)) (omega (arith, solid, bounds s), laid)
+  filled_finish (endings.Instead t) d plain below = failed
+
+  bound_finish : {n : ℕ} (how : Declared) (d : Datum) (e : Ending) → n ≤ max 512 (max (deep_parts ps) (max (deep_ending e) (depth_at d))) → Finishes n (bound limited how d e ps) (bound unlimited how d e ps)
+  bound_finish how d (endings.Around k form before behind) below =
+      andthen (left_follows (max (deep_parts ps) (max (depth_in before) (depth_in behind))) how d form (omega (arith, below))) (λ t u. done (omega (arith, depth_join)) (omega (arith, solid, bounds s), laid))
+  bound_finish how d (endings.Instead t) below = failed
+
+  declaring_finish : {n : ℕ} (ds : Data) (e : Ending) → 2 ≤ level s → rank e ≤ 1 → n ≤ max 512 (max (deep_parts ps) (max (deep_ending e) (depth_in ds))) → Finishes n (declaring ds e ps) (declaring ds e ps)
+  declaring_finish ds (endings.Around k form before behind) high plain below = let flat = plain_flat form plain in done (omega (arith, below, flat)) (omega (arith, solid, high), laid)
+  declaring_finish ds (endings.Instead t) high plain below = failed
+
+pub finish_follows : (f : Finish) (s : Symbol) (b : Flow) (left outer : List Symbol) (w : Work) (ps : List Part) → waste s f left b ≡ 0 → 1 ≤ leafs s → Within b w → HoldsWork IsIdent w → Laid (left ++ outer) ps
+    → Follows (deep_got (w, ps)) deep_parts (Laid (s ∷ outer)) (finish_on limited f w ps) (finish_on unlimited f w ps)
+unfolding statement property fills binds declares arrow_body tries sequence instead add_item switch parameters
+finish_follows finishes.Same s b (x ∷ []) outer w (p ∷ ps) kept solid e idents laid = done (omega (arith, kept, e, flat_ranks w.endings)) (omega (arith, kept, solid, laid.0), laid.1)
+finish_follows finishes.Same s b (x ∷ []) outer w [] kept solid e idents laid = absurd laid
+finish_follows finishes.Values s b [] outer w ps kept solid e idents laid = done (omega (arith, kept, e, flat_ranks w.endings)) (omega (arith, solid), laid)
+finish_follows finishes.Folds s b [] outer w ps kept solid e idents laid = folds_finish s outer ps solid laid b w kept e idents
+finish_follows (finishes.Ends k) s b [] outer w ps kept solid e idents laid = done (omega (arith, kept, e)) (omega (arith, kept, solid, e, bounds s), laid)
+finish_follows (finishes.EndsParameters k) s b [] outer w ps kept solid e idents laid = done (omega (arith, kept, e)) (omega (arith, kept, solid, e), laid)
+finish_follows (finishes.EndsLabel k) s b [] outer w ps kept solid e idents laid = done (omega (arith, kept, e)) (omega (arith, kept, solid, e), laid)
+finish_follows finishes.Endings s b [] outer w ps kept solid e idents laid = done (omega (arith, kept, e)) (omega (arith, kept, solid, e, behind_ranks w.endings), laid)
+finish_follows finishes.Fills s b [] outer w ps kept solid e idents laid =
+    andthen (one_follows w.values) (λ d one. andthen (one_ending_follows w.endings) (λ x all. filled_finish s outer ps solid laid x d (omega (arith, kept, e, all.1)) (omega (arith, kept, e, one.1, all.0))))
+finish_follows (finishes.Binds how) s b [] outer w ps kept solid e idents laid =
+    andthen (one_follows w.values) (λ d one. andthen (one_ending_follows w.endings) (λ x all. bound_finish s outer ps solid laid how d x (omega (arith, kept, e, one.1, all.0))))
+finish_follows finishes.Declares s b [] outer w ps kept solid e idents laid =
+    andthen (one_ending_follows w.endings) (λ x all. declaring_finish s outer ps solid laid w.values x (omega (arith, kept)) (omega (arith, kept, e, all.1)) (omega (arith, kept, e, all.0)))
+finish_follows finishes.ArrowBody s b [] outer w ps kept solid e idents laid = done (omega (arith, kept, e, flat_ranks w.endings)) (omega (arith, kept, solid), laid)
+finish_follows finishes.Tries s b [] outer w ps kept solid e idents laid = done (omega (arith, kept, e)) (omega (arith, kept, solid, e, bounds s), laid)
+finish_follows finishes.Sequence s b [] outer w ps kept solid e idents laid =
+    either_follows (is_none w.values) (λ is. let flat = none_flat w.values is in done (omega (arith, kept, e, flat, flat_ranks w.endings)) (omega (arith, kept, solid, e, bounds s), laid))
+    (λ is. values_end s outer ps solid laid (node (deep_parts ps) kinds.SequenceExpression (join w.held (one (listed w.values))) (omega (arith, kept, e, flat_ranks w.endings, depth_join)) tt))
+finish_follows finishes.Statement s b [] outer w ps kept solid e idents laid =
+    either_follows (length w.endings == 0) (λ is. andthen (made kinds.ExpressionStatement w.values) (λ t same. let left = none_left w.endings is in
+    let small = told_up w.raw 1 (depth_in (one (child t))) (depth_in w.values) (omega (arith, same.1)) in
+    done (omega (arith, kept, e, left, same.1)) (omega (arith, kept, solid, e, small), laid)))
+    (λ is. folds_finish s outer ps solid laid b w (omega (arith, kept)) e idents)
+finish_follows finishes.Property s b [] outer w ps kept solid e idents laid =
+    either_follows (length w.endings == 0) (λ is. let left = none_left w.endings is in values_end s outer ps solid laid (shorthand_follows (deep_parts ps) w.values (omega (arith, kept, e, left))))
+    (λ is. andthen (made kinds.LiteralPropertyName w.values) (λ t same. values_end s outer ps solid laid
+    (let spare : (depth_in w.values ≤ 1) × (depth_in w.held ≤ 1) × (depth_in w.directives ≤ 1) × (deep_items w.items ≤ 1) = omega (arith, kept, e) in
+    replaced_follows (deep_parts ps) w.endings t (omega (arith, kept, e)) idents.endings (property_ident w.values t same.0) (omega (arith, spare, same.1)) (omega (arith, spare, same.1)))))
+finish_follows finishes.Instead s b [] outer w ps kept solid e idents laid =
+    andthen (one_node_follows w.values) (λ t one. done (omega (arith, kept, e, one.1, flat_ranks w.endings)) (omega (arith, kept, solid), laid))
+finish_follows finishes.Items s b [] outer w ps kept solid e idents laid =
+    andthen (one_node_follows w.values) (λ t one. let small = told_up w.raw 0 (depth t) (depth_in w.values) (omega (arith, one.1)) in
+    done (omega (arith, kept, e, one.1, flat_ranks w.endings)) (omega (arith, kept, solid, e, small), laid))
+finish_follows finishes.NoItems s b [] outer w ps kept solid e idents laid = done (omega (arith, kept, e, flat_ranks w.endings)) (omega (arith, solid), laid)
+finish_follows finishes.Switch s b [] outer w ps kept solid e idents laid =
+    values_end s outer ps solid laid (switch_follows (deep_parts ps) w.held (before_default w.values) (from_default w.values) (omega (arith, kept, e, flat_ranks w.endings, cases_depth w.values)))
+finish_follows finishes.Parameters s b [] outer w ps kept solid e idents laid =
+    andthen (last_follows w.values) (λ l all. values_end s outer ps solid laid (node (deep_parts ps) kinds.FormalParameters (two (listed l.0) l.1) (omega (arith, kept, e, all, flat_ranks w.endings)) tt))
+finish_follows _ s b _ outer w ps kept solid e idents laid = absurd (omega (arith, kept))

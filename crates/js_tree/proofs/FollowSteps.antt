@@ -1,379 +1,346 @@
--- What the steps of a recipe gather with the limit follows what they gather without it.
-use Rattle.std.proofs.Common.{◌≡◌, ◌≤◌, Bool, true, false, not, ◌&&◌, List, [], ◌∷◌, ◌++◌, Option, Some, None, Result, Ok, refl, sym, subst, arith}
+-- What a row's work may hold, step by step; what the steps gather with the limit follows what they gather without it.
+use Rattle.std.proofs.Common.{◌≡◌, ◌≤◌, ◌==◌, ◌*◌, ◌+◌, ℕ, max, cond, Bool, true, ◌&&◌, List, [], ◌∷◌, ◌++◌, length, drop, Option, Some, None, Result, Ok, refl, arith}
+use Rattle.std.specs.Prelude.{nat_le}
+use Rattle.std.proofs.lemmas.Bool.{eqb-true}
 use Rattle.bast_base.specs.declared.errors.NameId.{NameId}
-use Rattle.bast_schema.specs.declared.kind.EnumId.{EnumId}
 use Rattle.bast_schema.specs.declared.kind.Kind.{Kind}
 use Rattle.bast_schema.specs.declared.kind.Kind.TheVariants as kinds
 use Rattle.bast_schema.specs.Counts.{join}
-use Rattle.bast_schema.specs.Tree.{Tree, branch, Datum, child, absent, listed, flag, whole, name, no_name, choice, Data, none, more, depth, depth_at, depth_in}
+use Rattle.bast_schema.specs.Tree.{Tree, Datum, child, absent, name, Data, none, more, depth, depth_at, depth_in}
+use Rattle.bast_schema.proofs.Sums.{depth_join}
 use Rattle.js_grammar.specs.declared.symbols.Symbol.{Symbol}
+use Rattle.js_grammar.specs.declared.symbols.Symbol.TheVariants as symbols
 use Rattle.js_tokens.specs.declared.kinds.TokenKind.{TokenKind}
 use Rattle.js_tokens.specs.declared.kinds.TokenKind.TheVariants as tokens
+use Rattle.js_tree.specs.Leads.{is_leaf}
 use Rattle.js_tree.specs.Nodes.{one, two, no_names, no_parameter_names, limited, unlimited, statements, behind_directive, behind_directives, directives, directives_from}
 use Rattle.js_tree.specs.Operators.{operator}
-use Rattle.js_tree.specs.Parts.{first_value, one_value, taken_leaf, taken_values, taken_endings, taken_items}
-use Rattle.js_tree.specs.Leads.{is_leaf}
-use Rattle.js_tree.specs.Results.{◌>>=◌, there, broken}
-use Rattle.js_tree.specs.Steps.{gather, gathered, with_value, with_node, step_on, skip, put, operand, wrap, text, number, whole_number, named, quoted, with_operator, parameter_of, parameter, template_part, tail, rest, with_statements, body, hold, resume, closed}
+use Rattle.js_tree.specs.Parts.{first_value, one_value, taken_values}
+use Rattle.js_tree.specs.Results.{◌>>=◌}
+use Rattle.js_tree.specs.Steps.{gathered, with_value, step_on, skip, put, operand, wrap, text, number, whole_number, named, quoted, with_operator, parameter_of, parameter, template_part, tail, rest, with_statements, body, hold, resume, closed}
 use Rattle.js_tree.specs.declared.fault.Fault.{Fault}
 use Rattle.js_tree.specs.declared.parts.Part.{Part}
 use Rattle.js_tree.specs.declared.parts.Part.TheVariants as parts
+use Rattle.js_tree.specs.declared.parts.Form.{Form}
+use Rattle.js_tree.specs.declared.parts.Form.TheVariants as forms
 use Rattle.js_tree.specs.declared.parts.Ending.{Ending}
+use Rattle.js_tree.specs.declared.parts.Ending.TheVariants as endings
 use Rattle.js_tree.specs.declared.parts.Item.{Item}
 use Rattle.js_tree.specs.declared.recipe.Step.{Step}
 use Rattle.js_tree.specs.declared.recipe.Step.TheVariants as steps
 use Rattle.js_tree.specs.declared.work.Work.{Work}
-use Rattle.js_tree.proofs.Holding.{each_result, both, is_not}
-use Rattle.js_tree.proofs.Following.{Follows, Unrefused, done, failed, alike, known, weaker, andthen, Flat, FlatIn, FlatEndings, FlatItems, FlatPart, FlatParts, FlatWork, FlatGot, flat_join, flat_endings, node_follows}
-use Rattle.js_tree.proofs.Laying.{AllPlain, AllAround, Arounds, is_accessor, PlainEnds, SmallTree, RawItems, LeafIf, is_plain, Laid, Flow, Empty, adds, with_raw, with_tail, with_rest, with_body, holds, resumes, may_step, left_by, after, may_all, left_by_all, after_all}
+use Rattle.js_tree.proofs.Holding.{both}
+use Rattle.js_tree.proofs.Following.{deep_endings, deep_items, deep_part, deep_parts, deep_work, deep_got, Follows, done, failed, andthen, follows_there, node, made}
 
-abbrev pub Stepped : Flow → List Symbol → Work × List Part → Type 0
-Stepped b xs r = Empty b r.0 × Laid xs r.1
+-- how an operand stands in an ending: as it is, in another form, or not at all
+abbrev pub rank_form : Form → ℕ
+rank_form forms.Plain = 1
+rank_form _ = 2
 
-abbrev pub Nothing : {A : Type 0} → A → Type 0
-Nothing x = Unit {0}
+abbrev pub rank : Ending → ℕ
+rank (endings.Around k form before behind) = rank_form form
+rank (endings.Instead t) = 3
 
--- what a result is no part of
-keep : {A : Type 0} (S : Type 0) (r : Result A Fault) → Unrefused r → Follows S (λ x. S) (λ x. Unit {0}) r r
-keep S r unrefused = alike S (λ x. S) (λ x. Unit {0}) r unrefused (each_result (λ x. S → S) r (λ x e s. s)) (each_result (λ x. Unit {0}) r (λ x e. tt))
+abbrev pub ranks : List Ending → ℕ
+ranks [] = 0
+ranks (e ∷ es) = max (rank e) (ranks es)
 
-keep_there : {A : Type 0} (S : Type 0) (o : Option A) → Follows S (λ x. S) (λ x. Unit {0}) (there o) (there o)
-keep_there S None = keep S broken tt
-keep_there S (Some x) = keep S (Ok x) tt
+-- of those behind the first one
+abbrev pub ranks_behind : List Ending → ℕ
+ranks_behind [] = 0
+ranks_behind (e ∷ es) = ranks es
 
-keep_number : (S : Type 0) (k : TokenKind) → Follows S (λ x. S) (λ x. Unit {0}) (number k) (number k)
-keep_number S (tokens.Number n) = keep S (Ok n) tt
-keep_number S _ = keep S broken tt
+-- how deep that is which has a raw text: an expression of one string is one node deep, and a statement of one two
+abbrev pub told : Option NameId → ℕ → ℕ
+told None d = 0
+told (Some n) d = d
 
-pub leaf_follows : (C : Type 0) (x : Symbol) (xs : List Symbol) (ps : List Part) → Laid (x ∷ xs) ps → Follows (C × FlatParts ps) (λ l. C × FlatParts l.1) (λ l. Laid xs l.1) (taken_leaf ps) (taken_leaf ps)
-leaf_follows C x xs (parts.Token l ∷ ps) laid = done _ _ _ (l, ps) (λ h. (h.0, (tt, h.1))) laid.1
-leaf_follows C x xs _ laid = failed _ _ _
+abbrev pub noise : Option NameId → ℕ
+noise None = 0
+noise (Some n) = 1
 
-abbrev FlatValues : Type 0 → (Data × Option NameId) × List Part → Type 0
-FlatValues C v = C × FlatIn v.0.0 × FlatParts v.1
+abbrev pub told_items : List Item → ℕ
+told_items [] = 0
+told_items (i ∷ is) = max (told i.raw (depth i.statement)) (told_items is)
 
-abbrev KnownValues : List Symbol → (Data × Option NameId) × List Part → Type 0
-KnownValues xs v = Laid xs v.1
+abbrev pub told_part : Part → ℕ
+told_part (parts.Values ds raw) = told raw (depth_in ds)
+told_part (parts.Items is) = told_items is
+told_part _ = 0
 
-pub values_follows : (C : Type 0) (x : Symbol) (xs : List Symbol) (ps : List Part) → Laid (x ∷ xs) ps → Follows (C × FlatParts ps) (FlatValues C) (KnownValues xs) (taken_values ps) (taken_values ps)
-values_follows C x xs (parts.Values ds raw ∷ ps) laid = done _ _ _ ((ds, raw), ps) (λ h. (h.0, (h.1, h.2))) laid.1
-values_follows C x xs _ laid = failed _ _ _
+abbrev pub ranks_part : Part → ℕ
+ranks_part (parts.Endings es) = ranks es
+ranks_part _ = 0
 
-abbrev FlatTaken : Type 0 → List Ending × List Part → Type 0
-FlatTaken C e = C × FlatEndings e.0 × FlatParts e.1
+abbrev pub ranks_behind_part : Part → ℕ
+ranks_behind_part (parts.Endings es) = ranks_behind es
+ranks_behind_part _ = 0
 
-abbrev pub KnownEndings : Bool → Bool → List Symbol → List Ending × List Part → Type 0
-KnownEndings p a xs e = PlainEnds p e.0 × Arounds a e.0 × Laid xs e.1
+-- what the parts of a symbol are at most
+abbrev pub cap : Symbol → ℕ
+cap symbols.Stat = 2
+cap symbols.Item = 2
+cap symbols.Body = 2
+cap symbols.Items = 2
+cap _ = 1
 
-pub endings_follows : (C : Type 0) (x : Symbol) (xs : List Symbol) (ps : List Part) → Laid (x ∷ xs) ps → Follows (C × FlatParts ps) (FlatTaken C) (KnownEndings (is_plain x) (is_accessor x) xs) (taken_endings ps) (taken_endings ps)
-endings_follows C x xs (parts.Endings es ∷ ps) laid = done _ _ _ (es, ps) (λ h. (h.0, (h.1, h.2))) (laid.0.plain, laid.0.around, laid.1)
-endings_follows C x xs _ laid = failed _ _ _
+-- what the head of a `for` without a declaration is put into, and what follows `get` or `set`, which may be an accessor
+abbrev pub level : Symbol → ℕ
+level symbols.ForRest = 1
+level symbols.ForExpr = 1
+level symbols.GetRest = 3
+level symbols.SetRest = 3
+level _ = 2
 
-abbrev FlatList : Type 0 → List Item × List Part → Type 0
-FlatList C i = C × FlatItems i.0 × FlatParts i.1
+abbrev pub leafs : Symbol → ℕ
+leafs s = cond (is_leaf s) 0 1
 
-abbrev KnownItems : List Symbol → List Item × List Part → Type 0
-KnownItems xs i = RawItems i.0 × Laid xs i.1
+pub record Suits (s : Symbol) (p : Part) : Type 0 where
+  pub leaf : leafs s ≤ 0 → deep_part p ≤ 0
+  pub small : told_part p ≤ cap s
+  pub ends : ranks_part p ≤ level s
+  pub behind : ranks_behind_part p ≤ 2
 
-items_follows : (C : Type 0) (x : Symbol) (xs : List Symbol) (ps : List Part) → Laid (x ∷ xs) ps → Follows (C × FlatParts ps) (FlatList C) (KnownItems xs) (taken_items ps) (taken_items ps)
-items_follows C x xs (parts.Items is ∷ ps) laid = done _ _ _ (is, ps) (λ h. (h.0, (h.1, h.2))) (laid.0.small, laid.1)
-items_follows C x xs _ laid = failed _ _ _
+-- one part for each symbol
+abbrev pub Laid : List Symbol → List Part → Type 0
+Laid [] [] = Unit {0}
+Laid [] (p ∷ ps) = ⊥
+Laid (s ∷ ss) [] = ⊥
+Laid (s ∷ ss) (p ∷ ps) = Suits s p × Laid ss ps
 
-pub first_follows : (C : Type 0) (ds : Data) → Follows (C × FlatIn ds) (λ f. C × (depth_at f.0 ≤ 512) × FlatIn f.1) (λ f. Unit {0}) (first_value ds) (first_value ds)
-first_follows C none = failed _ _ _
-first_follows C (more d ds) = done _ _ _ (d, ds) (λ h. let a : depth_at d ≤ 512 = h.1 in let b : depth_in ds ≤ 512 = h.2 in (h.0, omega (arith, a, b))) tt
+-- whether the fields of a work may be deep, what its endings are at most, whether it may have a raw text, and how deep its
+-- values and those held are at most, where it has one: 3 and more say nothing
+pub record Flow : Type 0 where
+  pub values : ℕ
+  pub held : ℕ
+  pub directives : ℕ
+  pub items : ℕ
+  pub ends : ℕ
+  pub behind : ℕ
+  pub raw : ℕ
+  pub operand : ℕ
+  pub held_operand : ℕ
 
-pub one_follows : (C : Type 0) (ds : Data) → Follows (C × FlatIn ds) (λ d. C × (depth_at d ≤ 512)) (λ d. ds ≡ one d) (one_value ds) (one_value ds)
-one_follows C none = failed _ _ _
-one_follows C (more d none) = done _ _ _ d (λ h. let a : depth_at d ≤ 512 = h.1 in (h.0, omega (arith, a))) refl
-one_follows C (more d (more e es)) = failed _ _ _
+pub record Within (b : Flow) (w : Work) : Type 0 where
+  pub values : b.values ≤ 0 → depth_in w.values ≤ 1
+  pub held : b.held ≤ 0 → depth_in w.held ≤ 1
+  pub directives : b.directives ≤ 0 → depth_in w.directives ≤ 1
+  pub items : b.items ≤ 0 → deep_items w.items ≤ 1
+  pub small : told_items w.items ≤ 2
+  pub ends : ranks w.endings ≤ b.ends
+  pub behind : ranks_behind w.endings ≤ b.behind
+  pub raw : noise w.raw ≤ b.raw
+  pub operand : b.operand ≤ 2 → told w.raw (depth_in w.values) ≤ b.operand
+  pub held_operand : b.held_operand ≤ 2 → told w.raw (depth_in w.held) ≤ b.held_operand
 
--- the fields that stay
-added : (b : Flow) (w : Work) (ds : Data) → Empty b w → Empty (adds b) (record w { values = ds })
-added b w ds e = record { values = λ t. absurd cc; held = e.held; directives = e.directives; endings = e.endings; items = e.items; raw = e.raw; plain = e.plain; around = e.around }
+abbrev pub no_flow : Flow
+no_flow = record { values = 0; held = 0; directives = 0; items = 0; ends = 0; behind = 0; raw = 0; operand = 0; held_operand = 0 }
 
-work_back : (w : Work) (ds : Data) → FlatWork (record w { values = join w.values ds }) → FlatWork w × FlatIn ds
-work_back w ds h = let s = flat_join w.values ds h.values in (record { values = s.0; held = h.held; directives = h.directives; endings = h.endings; items = h.items }, s.1)
+abbrev adds : Flow → Flow
+adds b = record b { values = 1; operand = 3 * b.raw }
 
-pub alone : (d : Datum) → FlatIn (one d) → depth_at d ≤ 512
-alone d h = omega (arith, h)
+abbrev with_raw : ℕ → Flow → Flow
+with_raw c b = record b { values = 1; raw = 1; operand = c + 3 * b.values; held_operand = 1 + 3 * b.held }
 
-value_follows : (b : Flow) (d : Datum) (w : Work) (xs : List Symbol) (ps : List Part) → Empty b w → Laid xs ps
-    → Follows ((FlatWork w × FlatParts ps) × (depth_at d ≤ 512)) FlatGot (Stepped (adds b) xs) (with_value d w ps) (with_value d w ps)
-value_follows b d w xs ps e laid =
-    done _ _ _ (gather d w, ps) (λ z. let k = work_back w (one d) z.0 in ((k.0, z.1), alone d k.1)) (added b w (join w.values (one d)) e, laid)
+-- how many symbols a step takes, what it may lose, what is left, and what the work may hold then
+abbrev takes : Step → ℕ
+takes steps.Absent = 0
+takes steps.NoLabel = 0
+takes steps.NoItems = 0
+takes (steps.Flag b) = 0
+takes (steps.Choice n) = 0
+takes (steps.Scope k) = 0
+takes steps.ParameterScope = 0
+takes steps.Hold = 0
+takes steps.Resume = 0
+takes (steps.Close k) = 0
+takes steps.Parameter = 2
+takes steps.TemplatePart = 2
+takes _ = 1
 
-plain_value : (b : Flow) (d : Datum) (w : Work) (xs : List Symbol) (ps : List Part) → Empty b w → Laid xs ps → Follows (FlatGot (w, ps)) FlatGot (Stepped (adds b) xs) (with_value d w ps) (with_value d w ps)
-plain_value b d w xs ps e laid = weaker ((FlatWork w × FlatParts ps) × (depth_at d ≤ 512)) (FlatGot (w, ps)) FlatGot (Stepped (adds b) xs) _ _ (λ h. h.0) (value_follows b d w xs ps e laid)
+abbrev lost : Step → List Symbol → Flow → ℕ
+lost steps.Skip (x ∷ xs) b = leafs x
+lost steps.Rest xs b = b.items
+lost steps.Body xs b = b.directives
+lost steps.Hold xs b = b.held
+lost _ xs b = 0
 
-tree_follows : (S : Type 0) (K : Tree → Type 0) (r q : Result Tree Fault) (b : Flow) (w : Work) (xs : List Symbol) (ps : List Part) → Empty b w → Laid xs ps
-    → Follows S (λ t. (FlatWork w × FlatParts ps) × Flat t) K r q → Follows S FlatGot (Stepped (adds b) xs) (with_node r w ps) (with_node q w ps)
-tree_follows S K r q b w xs ps e laid h =
-    andthen S (λ t. (FlatWork w × FlatParts ps) × Flat t) K FlatGot (Stepped (adds b) xs) r q (λ t. with_value (child t) w ps) (λ t. with_value (child t) w ps) h (λ t k. value_follows b (child t) w xs ps e laid)
+abbrev after : Step → List Symbol → Flow → Flow
+after steps.Skip xs b = b
+after steps.Text xs b = record b { operand = 3 * b.raw }
+after steps.Operand (x ∷ xs) b = with_raw (cap x) b
+after steps.Quoted xs b = with_raw 1 b
+after steps.Tail (x ∷ xs) b = record b { ends = max b.ends (level x); behind = max 2 (3 * b.ends) }
+after steps.Rest xs b = record b { items = 1 }
+after steps.Body xs b = record (adds b) { directives = 1 }
+after steps.Hold xs b = record b { values = 0; held = b.values; operand = 0; held_operand = b.operand }
+after steps.Resume xs b = record (adds b) { held = 0; directives = 0; held_operand = 0 }
+after _ xs b = adds b
 
-pub made_follows : (C : Type 0) (k : Kind) (ds : Data) → Follows C (λ t. C × Flat t) (λ t. branch k ds ≡ t) (limited k ds) (unlimited k ds)
-made_follows C k ds = weaker (C × FlatIn ds) C (λ t. C × Flat t) (λ t. branch k ds ≡ t) (limited k ds) (unlimited k ds) (λ h. h.0) (node_follows C k ds)
+abbrev left_by : Step → List Symbol → List Symbol
+left_by s xs = drop (takes s) xs
 
-flat_leaf : (p : Part) → LeafIf true p → FlatPart p
-flat_leaf (parts.Token l) h = tt
-flat_leaf parts.Counted h = tt
-flat_leaf _ h = absurd h
+abbrev pub may_all : List Step → List Symbol → Flow → Bool
+may_all [] xs b = true
+may_all (s ∷ ss) xs b = (nat_le (takes s) (length xs) && (lost s xs b == 0)) && may_all ss (left_by s xs) (after s xs b)
 
-skip_follows : (b : Flow) (w : Work) (x : Symbol) (xs : List Symbol) (ps : List Part) → is_leaf x ≡ true → Empty b w → Laid (x ∷ xs) ps → Follows (FlatGot (w, ps)) FlatGot (Stepped b xs) (skip w ps) (skip w ps)
-unfolding skip
-skip_follows b w x xs [] leaf e laid = absurd laid
-skip_follows b w x xs (p ∷ ps) leaf e laid = done _ _ _ (w, ps) (λ z. (z.0, (flat_leaf p (subst (λ l. LeafIf l p) leaf laid.0.leaf), z.1))) (e, laid.1)
+abbrev pub left_by_all : List Step → List Symbol → List Symbol
+left_by_all [] xs = xs
+left_by_all (s ∷ ss) xs = left_by_all ss (left_by s xs)
 
-put_follows : (b : Flow) (w : Work) (x : Symbol) (xs : List Symbol) (ps : List Part) → Empty b w → Laid (x ∷ xs) ps → Follows (FlatGot (w, ps)) FlatGot (Stepped (adds b) xs) (put w ps) (put w ps)
-unfolding put
-put_follows b w x xs ps e laid =
-    andthen (FlatGot (w, ps)) (FlatValues (FlatWork w)) (KnownValues xs) FlatGot (Stepped (adds b) xs) (taken_values ps) (taken_values ps) _ _ (values_follows (FlatWork w) x xs ps laid)
-    (λ v j. done _ _ _ (record w { values = join w.values v.0.0 }, v.1) (λ z. let k = work_back w v.0.0 z.0 in (k.0, k.1, z.1)) (added b w (join w.values v.0.0) e, j))
+abbrev pub after_all : List Step → List Symbol → Flow → Flow
+after_all [] xs b = b
+after_all (s ∷ ss) xs b = after_all ss (left_by s xs) (after s xs b)
 
-raw_added : (b : Flow) (w : Work) (ds : Data) (raw : Option NameId) → Empty b w → Empty (with_raw b) (record w { values = ds; raw = raw })
-raw_added b w ds raw e = record { values = λ t. absurd cc; held = e.held; directives = e.directives; endings = e.endings; items = e.items; raw = λ t. absurd cc; plain = e.plain; around = e.around }
+-- depths and ranks of what is put together
+told_most : (o : Option NameId) (d : ℕ) → told o d ≤ d
+told_most None d = omega arith
+told_most (Some n) d = omega arith
 
-raw_back : (w : Work) (ds : Data) (raw : Option NameId) → FlatWork (record w { values = join w.values ds; raw = raw }) → FlatWork w × FlatIn ds
-raw_back w ds raw h = let s = flat_join w.values ds h.values in (record { values = s.0; held = h.held; directives = h.directives; endings = h.endings; items = h.items }, s.1)
+noise_most : (o : Option NameId) → noise o ≤ 1
+noise_most None = omega arith
+noise_most (Some n) = omega arith
 
-operand_follows : (b : Flow) (w : Work) (x : Symbol) (xs : List Symbol) (ps : List Part) → Empty b w → Laid (x ∷ xs) ps → Follows (FlatGot (w, ps)) FlatGot (Stepped (with_raw b) xs) (operand w ps) (operand w ps)
-unfolding operand
-operand_follows b w x xs ps e laid =
-    andthen (FlatGot (w, ps)) (FlatValues (FlatWork w)) (KnownValues xs) FlatGot (Stepped (with_raw b) xs) (taken_values ps) (taken_values ps) _ _ (values_follows (FlatWork w) x xs ps laid)
-    (λ v j. done _ _ _ (record w { values = join w.values v.0.0; raw = v.0.1 }, v.1) (λ z. let k = raw_back w v.0.0 v.0.1 z.0 in (k.0, k.1, z.1)) (raw_added b w (join w.values v.0.0) v.0.1 e, j))
+quiet : (o : Option NameId) (d : ℕ) → noise o ≤ 0 → told o d ≤ 0
+quiet None d e = omega arith
+quiet (Some n) d e = absurd (omega (arith, e))
 
-wrap_follows : (b : Flow) (w : Work) (x : Symbol) (xs : List Symbol) (ps : List Part) → Empty b w → Laid (x ∷ xs) ps → Follows (FlatGot (w, ps)) FlatGot (Stepped (adds b) xs) (wrap w ps) (wrap w ps)
-unfolding wrap
-wrap_follows b w x xs ps e laid =
-    andthen (FlatGot (w, ps)) (FlatValues (FlatWork w)) (KnownValues xs) FlatGot (Stepped (adds b) xs) (taken_values ps) (taken_values ps) _ _ (values_follows (FlatWork w) x xs ps laid)
-    (λ v j. weaker ((FlatWork w × FlatParts v.1) × FlatIn v.0.0) (FlatValues (FlatWork w) v) FlatGot (Stepped (adds b) xs) _ _ (λ h. (h.0.0, h.1, h.0.1)) (value_follows b (listed v.0.0) w xs v.1 e j))
+told_join : (o : Option NameId) (ds es : Data) → told o (depth_in (join ds es)) ≤ max (depth_in ds) (told o (depth_in es))
+told_join None ds es = omega arith
+told_join (Some n) ds es = omega (arith, depth_join ds es)
 
-text_follows : (b : Flow) (w : Work) (x : Symbol) (xs : List Symbol) (ps : List Part) → Empty b w → Laid (x ∷ xs) ps → Follows (FlatGot (w, ps)) FlatGot (Stepped (adds b) xs) (text w ps) (text w ps)
-unfolding text
-text_follows b w x xs ps e laid =
-    andthen (FlatGot (w, ps)) (λ l. FlatWork w × FlatParts l.1) (λ l. Laid xs l.1) FlatGot (Stepped (adds b) xs) (taken_leaf ps) (taken_leaf ps) _ _ (leaf_follows (FlatWork w) x xs ps laid)
-    (λ l j. andthen (FlatGot (w, l.1)) (λ n. FlatGot (w, l.1)) (λ n. Unit {0}) FlatGot (Stepped (adds b) xs) (there l.0.text) (there l.0.text) (λ n. with_value (name n.0) w l.1) (λ n. with_value (name n.0) w l.1) (keep_there _ l.0.text) (λ n u. plain_value b (name n.0) w xs l.1 e j))
+deep_append : (es fs : List Ending) → (deep_endings es ≤ deep_endings (es ++ fs)) × (deep_endings fs ≤ deep_endings (es ++ fs))
+deep_append [] fs = omega arith
+deep_append (e ∷ es) fs = omega (arith, deep_append es fs)
 
-whole_follows : (b : Flow) (w : Work) (x : Symbol) (xs : List Symbol) (ps : List Part) → Empty b w → Laid (x ∷ xs) ps → Follows (FlatGot (w, ps)) FlatGot (Stepped (adds b) xs) (whole_number w ps) (whole_number w ps)
-unfolding whole_number
-whole_follows b w x xs ps e laid =
-    andthen (FlatGot (w, ps)) (λ l. FlatWork w × FlatParts l.1) (λ l. Laid xs l.1) FlatGot (Stepped (adds b) xs) (taken_leaf ps) (taken_leaf ps) _ _ (leaf_follows (FlatWork w) x xs ps laid)
-    (λ l j. andthen (FlatGot (w, l.1)) (λ n. FlatGot (w, l.1)) (λ n. Unit {0}) FlatGot (Stepped (adds b) xs) (number l.0.kind) (number l.0.kind) (λ n. with_value (whole n) w l.1) (λ n. with_value (whole n) w l.1) (keep_number _ l.0.kind) (λ n u. plain_value b (whole n) w xs l.1 e j))
+ranks_append : (es fs : List Ending) → ranks (es ++ fs) ≡ max (ranks es) (ranks fs)
+ranks_append [] fs = omega arith
+ranks_append (e ∷ es) fs = omega (arith, ranks_append es fs)
 
-operator_follows : (o : EnumId) (b : Flow) (w : Work) (x : Symbol) (xs : List Symbol) (ps : List Part) → Empty b w → Laid (x ∷ xs) ps → Follows (FlatGot (w, ps)) FlatGot (Stepped (adds b) xs) (with_operator o w ps) (with_operator o w ps)
-unfolding with_operator
-operator_follows o b w x xs ps e laid =
-    andthen (FlatGot (w, ps)) (λ l. FlatWork w × FlatParts l.1) (λ l. Laid xs l.1) FlatGot (Stepped (adds b) xs) (taken_leaf ps) (taken_leaf ps) _ _ (leaf_follows (FlatWork w) x xs ps laid)
-    (λ l j. andthen (FlatGot (w, l.1)) (λ n. FlatGot (w, l.1)) (λ n. Unit {0}) FlatGot (Stepped (adds b) xs) (there (operator o l.0.kind)) (there (operator o l.0.kind)) (λ n. with_value (choice n) w l.1) (λ n. with_value (choice n) w l.1) (keep_there _ (operator o l.0.kind)) (λ n u. plain_value b (choice n) w xs l.1 e j))
+pub rank_form_is : (f : Form) → (1 ≤ rank_form f) × (rank_form f ≤ 2)
+rank_form_is forms.Plain = omega arith
+rank_form_is _ = omega arith
 
-named_follows : (k : Kind) (b : Flow) (w : Work) (x : Symbol) (xs : List Symbol) (ps : List Part) → Empty b w → Laid (x ∷ xs) ps → Follows (FlatGot (w, ps)) FlatGot (Stepped (adds b) xs) (named limited k w ps) (named unlimited k w ps)
-unfolding named
-named_follows k b w x xs ps e laid =
-    andthen (FlatGot (w, ps)) (λ l. FlatWork w × FlatParts l.1) (λ l. Laid xs l.1) FlatGot (Stepped (adds b) xs) (taken_leaf ps) (taken_leaf ps) _ _ (leaf_follows (FlatWork w) x xs ps laid)
-    (λ l j. andthen (FlatGot (w, l.1)) (λ n. FlatGot (w, l.1)) (λ n. Unit {0}) FlatGot (Stepped (adds b) xs) (there l.0.text) (there l.0.text) (λ n. with_node (limited k (one (name n.0))) w l.1) (λ n. with_node (unlimited k (one (name n.0))) w l.1) (keep_there _ l.0.text)
-    (λ n u. tree_follows (FlatGot (w, l.1)) (λ t. branch k (one (name n.0)) ≡ t) (limited k (one (name n.0))) (unlimited k (one (name n.0))) b w xs l.1 e j (made_follows (FlatGot (w, l.1)) k (one (name n.0)))))
+rank_is : (e : Ending) → (1 ≤ rank e) × (rank e ≤ 3)
+rank_is (endings.Around k form before behind) = omega (arith, rank_form_is form)
+rank_is (endings.Instead t) = omega arith
 
-quoted_follows : (b : Flow) (w : Work) (x : Symbol) (xs : List Symbol) (ps : List Part) → Empty b w → Laid (x ∷ xs) ps → Follows (FlatGot (w, ps)) FlatGot (Stepped (with_raw b) xs) (quoted limited w ps) (quoted unlimited w ps)
-unfolding quoted
-quoted_follows b w x xs ps e laid =
-    andthen (FlatGot (w, ps)) (λ l. FlatWork w × FlatParts l.1) (λ l. Laid xs l.1) FlatGot (Stepped (with_raw b) xs) (taken_leaf ps) (taken_leaf ps) _ _ (leaf_follows (FlatWork w) x xs ps laid)
-    (λ l j. andthen (FlatGot (w, l.1)) (λ n. FlatGot (w, l.1)) (λ n. Unit {0}) FlatGot (Stepped (with_raw b) xs) (there l.0.text) (there l.0.text) _ _ (keep_there _ l.0.text)
-    (λ n u. andthen (FlatGot (w, l.1)) (λ t. FlatGot (w, l.1) × Flat t) (λ t. branch kinds.LiteralStringExpression (one (name n.0)) ≡ t) FlatGot (Stepped (with_raw b) xs)
-    (limited kinds.LiteralStringExpression (one (name n.0))) (unlimited kinds.LiteralStringExpression (one (name n.0))) _ _ (made_follows (FlatGot (w, l.1)) kinds.LiteralStringExpression (one (name n.0)))
-    (λ t k. done _ _ _ (record w { values = join w.values (one (child t)); raw = l.0.raw }, l.1) (λ z. let k = raw_back w (one (child t)) l.0.raw z.0 in ((k.0, z.1), alone (child t) k.1)) (raw_added b w (join w.values (one (child t))) l.0.raw e, j))))
+ranks_most : (es : List Ending) → ranks es ≤ 3
+ranks_most [] = omega arith
+ranks_most (e ∷ es) = omega (arith, rank_is e, ranks_most es)
 
-parameter_of_follows : (C : Type 0) (t : Tree) (d : Datum) → Follows (C × Flat t × (depth_at d ≤ 512)) (λ u. C × Flat u) (λ u. Unit {0}) (parameter_of limited t d) (parameter_of unlimited t d)
-parameter_of_follows C t absent = done _ _ _ t (λ h. (h.0, h.1, omega arith)) tt
-parameter_of_follows C t (child u) =
-    known (C × Flat t × (depth_at (child u) ≤ 512)) (λ v. C × Flat v) (λ v. branch kinds.BindingWithInitializer (two (child t) (child u)) ≡ v) (λ v. Unit {0}) (limited kinds.BindingWithInitializer (two (child t) (child u))) (unlimited kinds.BindingWithInitializer (two (child t) (child u))) tt
-    (weaker (C × FlatIn (two (child t) (child u))) (C × Flat t × (depth_at (child u) ≤ 512)) (λ v. C × Flat v) (λ v. branch kinds.BindingWithInitializer (two (child t) (child u)) ≡ v) (limited kinds.BindingWithInitializer (two (child t) (child u))) (unlimited kinds.BindingWithInitializer (two (child t) (child u)))
-    (λ h. let a : depth_in (two (child t) (child u)) ≤ 512 = h.1 in (h.0, omega (arith, a), omega (arith, a))) (node_follows C kinds.BindingWithInitializer (two (child t) (child u))))
-parameter_of_follows C t _ = failed _ _ _
+behind_append : (es fs : List Ending) → ranks_behind (es ++ fs) ≤ max (ranks_behind fs) (3 * ranks es)
+behind_append [] fs = omega arith
+behind_append (e ∷ es) fs = omega (arith, rank_is e, ranks_most (es ++ fs))
 
-parameter_follows : (b : Flow) (w : Work) (x y : Symbol) (xs : List Symbol) (ps : List Part) → Empty b w → Laid (x ∷ y ∷ xs) ps → Follows (FlatGot (w, ps)) FlatGot (Stepped (adds b) xs) (parameter limited w ps) (parameter unlimited w ps)
-unfolding parameter
-parameter_follows b w x y xs ps e laid =
-    andthen (FlatGot (w, ps)) (λ l. FlatWork w × FlatParts l.1) (λ l. Laid (y ∷ xs) l.1) FlatGot (Stepped (adds b) xs) (taken_leaf ps) (taken_leaf ps) _ _ (leaf_follows (FlatWork w) x (y ∷ xs) ps laid)
-    (λ l j. andthen (FlatGot (w, l.1)) (λ n. FlatGot (w, l.1)) (λ n. Unit {0}) FlatGot (Stepped (adds b) xs) (there l.0.text) (there l.0.text) _ _ (keep_there _ l.0.text)
-    (λ n u. andthen (FlatGot (w, l.1)) (λ t. FlatGot (w, l.1) × Flat t) (λ t. branch kinds.BindingIdentifier (one (name n.0)) ≡ t) FlatGot (Stepped (adds b) xs)
-    (limited kinds.BindingIdentifier (one (name n.0))) (unlimited kinds.BindingIdentifier (one (name n.0))) _ _ (made_follows (FlatGot (w, l.1)) kinds.BindingIdentifier (one (name n.0)))
-    (λ t k. andthen (FlatGot (w, l.1) × Flat t) (FlatValues (FlatWork w × Flat t)) (KnownValues xs) FlatGot (Stepped (adds b) xs) (taken_values l.1) (taken_values l.1) _ _
-    (weaker ((FlatWork w × Flat t) × FlatParts l.1) (FlatGot (w, l.1) × Flat t) (FlatValues (FlatWork w × Flat t)) (KnownValues xs) (taken_values l.1) (taken_values l.1) (λ h. ((h.0.0, h.1), h.0.1)) (values_follows (FlatWork w × Flat t) y xs l.1 j))
-    (λ v jv. andthen (FlatValues (FlatWork w × Flat t) v) (λ d. ((FlatWork w × FlatParts v.1) × Flat t) × (depth_at d ≤ 512)) (λ d. v.0.0 ≡ one d) FlatGot (Stepped (adds b) xs) (one_value v.0.0) (one_value v.0.0) _ _
-    (weaker (((FlatWork w × FlatParts v.1) × Flat t) × FlatIn v.0.0) (FlatValues (FlatWork w × Flat t) v) (λ d. ((FlatWork w × FlatParts v.1) × Flat t) × (depth_at d ≤ 512)) (λ d. v.0.0 ≡ one d) (one_value v.0.0) (one_value v.0.0) (λ h. ((h.0.0.0, h.0.1), h.1, h.0.0.1)) (one_follows ((FlatWork w × FlatParts v.1) × Flat t) v.0.0))
-    (λ d jd. tree_follows (((FlatWork w × FlatParts v.1) × Flat t) × (depth_at d ≤ 512)) (λ u. Unit {0}) (parameter_of limited t d) (parameter_of unlimited t d) b w xs v.1 e jv
-    (weaker ((FlatWork w × FlatParts v.1) × Flat t × (depth_at d ≤ 512)) (((FlatWork w × FlatParts v.1) × Flat t) × (depth_at d ≤ 512)) (λ u. (FlatWork w × FlatParts v.1) × Flat u) (λ u. Unit {0}) (parameter_of limited t d) (parameter_of unlimited t d) (λ h. ((h.0, h.1), h.2)) (parameter_of_follows (FlatWork w × FlatParts v.1) t d)))))))
+pub bounds : (s : Symbol) → (1 ≤ cap s) × (cap s ≤ 2) × (1 ≤ level s)
+bounds symbols.Stat = omega arith
+bounds _ = omega arith
 
-template_follows : (b : Flow) (w : Work) (x y : Symbol) (xs : List Symbol) (ps : List Part) → Empty b w → Laid (x ∷ y ∷ xs) ps → Follows (FlatGot (w, ps)) FlatGot (Stepped (adds b) xs) (template_part limited w ps) (template_part unlimited w ps)
-unfolding template_part
-template_follows b w x y xs ps e laid =
-    andthen (FlatGot (w, ps)) (FlatValues (FlatWork w)) (KnownValues (y ∷ xs)) FlatGot (Stepped (adds b) xs) (taken_values ps) (taken_values ps) _ _ (values_follows (FlatWork w) x (y ∷ xs) ps laid)
-    (λ v jv. andthen (FlatValues (FlatWork w) v) (λ d. (FlatWork w × FlatParts v.1) × (depth_at d ≤ 512)) (λ d. v.0.0 ≡ one d) FlatGot (Stepped (adds b) xs) (one_value v.0.0) (one_value v.0.0) _ _
-    (weaker ((FlatWork w × FlatParts v.1) × FlatIn v.0.0) (FlatValues (FlatWork w) v) (λ d. (FlatWork w × FlatParts v.1) × (depth_at d ≤ 512)) (λ d. v.0.0 ≡ one d) (one_value v.0.0) (one_value v.0.0) (λ h. (h.0.0, h.1, h.0.1)) (one_follows (FlatWork w × FlatParts v.1) v.0.0))
-    (λ d jd. andthen ((FlatWork w × FlatParts v.1) × (depth_at d ≤ 512)) (FlatValues (FlatWork w × (depth_at d ≤ 512))) (KnownValues xs) FlatGot (Stepped (adds b) xs) (taken_values v.1) (taken_values v.1) _ _
-    (weaker ((FlatWork w × (depth_at d ≤ 512)) × FlatParts v.1) ((FlatWork w × FlatParts v.1) × (depth_at d ≤ 512)) (FlatValues (FlatWork w × (depth_at d ≤ 512))) (KnownValues xs) (taken_values v.1) (taken_values v.1) (λ h. ((h.0.0, h.1), h.0.1)) (values_follows (FlatWork w × (depth_at d ≤ 512)) y xs v.1 jv))
-    (λ u ju. andthen (FlatValues (FlatWork w × (depth_at d ≤ 512)) u) (λ f. ((FlatWork w × FlatParts u.1) × (depth_at d ≤ 512)) × (depth_at f.0 ≤ 512) × FlatIn f.1) (λ f. Unit {0}) FlatGot (Stepped (adds b) xs) (first_value u.0.0) (first_value u.0.0) _ _
-    (weaker (((FlatWork w × FlatParts u.1) × (depth_at d ≤ 512)) × FlatIn u.0.0) (FlatValues (FlatWork w × (depth_at d ≤ 512)) u) (λ f. ((FlatWork w × FlatParts u.1) × (depth_at d ≤ 512)) × (depth_at f.0 ≤ 512) × FlatIn f.1) (λ f. Unit {0}) (first_value u.0.0) (first_value u.0.0) (λ h. ((h.0.0.0, h.0.1), h.1, h.0.0.1)) (first_follows ((FlatWork w × FlatParts u.1) × (depth_at d ≤ 512)) u.0.0))
-    (λ f jf. andthen (((FlatWork w × FlatParts u.1) × (depth_at d ≤ 512)) × (depth_at f.0 ≤ 512) × FlatIn f.1) (λ t. ((FlatWork w × FlatParts u.1) × FlatIn f.1) × Flat t) (λ t. branch kinds.TemplatePart (two d f.0) ≡ t) FlatGot (Stepped (adds b) xs) (limited kinds.TemplatePart (two d f.0)) (unlimited kinds.TemplatePart (two d f.0)) _ _
-    (weaker (((FlatWork w × FlatParts u.1) × FlatIn f.1) × FlatIn (two d f.0)) (((FlatWork w × FlatParts u.1) × (depth_at d ≤ 512)) × (depth_at f.0 ≤ 512) × FlatIn f.1) (λ t. ((FlatWork w × FlatParts u.1) × FlatIn f.1) × Flat t) (λ t. branch kinds.TemplatePart (two d f.0) ≡ t) (limited kinds.TemplatePart (two d f.0)) (unlimited kinds.TemplatePart (two d f.0))
-    (λ h. let a : depth_in (two d f.0) ≤ 512 = h.1 in ((h.0.0, omega (arith, a)), omega (arith, a), h.0.1)) (node_follows ((FlatWork w × FlatParts u.1) × FlatIn f.1) kinds.TemplatePart (two d f.0)))
-    (λ t jt. done _ _ _ (record w { values = join w.values (more (child t) f.1) }, u.1)
-    (λ z. let k = work_back w (more (child t) f.1) z.0 in let a : depth_in (more (child t) f.1) ≤ 512 = k.1 in (((k.0, z.1), omega (arith, a)), omega (arith, a))) (added b w (join w.values (more (child t) f.1)) e, ju))))))
-
-plain_join : (es fs : List Ending) → AllPlain es → AllPlain fs → AllPlain (es ++ fs)
-plain_join [] fs h k = k
-plain_join (e ∷ es) fs h k = (h.0, plain_join es fs h.1 k)
-
-plain_tail : (a b : Bool) (es fs : List Ending) → (a ≡ true → AllPlain es) → PlainEnds b fs → (a && b) ≡ true → AllPlain (es ++ fs)
-plain_tail true true es fs h k e = plain_join es fs (h refl) k
-plain_tail true false es fs h k e = absurd cc
-plain_tail false b es fs h k e = absurd cc
-
-around_join : (es fs : List Ending) → AllAround es → AllAround fs → AllAround (es ++ fs)
-around_join [] fs h k = k
-around_join (e ∷ es) fs h k = (h.0, around_join es fs h.1 k)
-
-around_tail : (a b : Bool) (es fs : List Ending) → (a ≡ true → AllAround es) → Arounds b fs → (a && not b) ≡ true → AllAround (es ++ fs)
-around_tail true false es fs h k e = around_join es fs (h refl) k
-around_tail true true es fs h k e = absurd cc
-around_tail false b es fs h k e = absurd cc
-
-tail_follows : (b : Flow) (w : Work) (x : Symbol) (xs : List Symbol) (ps : List Part) → Empty b w → Laid (x ∷ xs) ps → Follows (FlatGot (w, ps)) FlatGot (Stepped (with_tail x b) xs) (tail w ps) (tail w ps)
-unfolding tail
-tail_follows b w x xs ps e laid =
-    andthen (FlatGot (w, ps)) (FlatTaken (FlatWork w)) (KnownEndings (is_plain x) (is_accessor x) xs) FlatGot (Stepped (with_tail x b) xs) (taken_endings ps) (taken_endings ps) _ _ (endings_follows (FlatWork w) x xs ps laid)
-    (λ t j. done _ _ _ (record w { endings = w.endings ++ t.0 }, t.1)
-    (λ z. let s = flat_endings w.endings t.0 z.0.endings in (record { values = z.0.values; held = z.0.held; directives = z.0.directives; endings = s.0; items = z.0.items }, s.1, z.1))
-    (record { values = e.values; held = e.held; directives = e.directives; endings = λ t. absurd cc; items = e.items; raw = e.raw; plain = plain_tail b.plain (is_plain x) w.endings t.0 e.plain j.0; around = around_tail b.around (is_accessor x) w.endings t.0 e.around j.1 }, j.2))
-
-pub no_items : (is : List Item) → is ≡ [] → FlatItems is
-no_items is e = subst FlatItems (sym e) tt
-
-pub no_data : (ds : Data) → ds ≡ none → FlatIn ds
-no_data ds e = let z : depth_in none ≤ 512 = omega arith in subst FlatIn (sym e) z
-
-rest_follows : (b : Flow) (w : Work) (x : Symbol) (xs : List Symbol) (ps : List Part) → b.items ≡ false → Empty b w → Laid (x ∷ xs) ps → Follows (FlatGot (w, ps)) FlatGot (Stepped (with_rest b) xs) (rest w ps) (rest w ps)
-unfolding rest
-rest_follows b w x xs ps free e laid =
-    andthen (FlatGot (w, ps)) (FlatList (FlatWork w)) (KnownItems xs) FlatGot (Stepped (with_rest b) xs) (taken_items ps) (taken_items ps) _ _ (items_follows (FlatWork w) x xs ps laid)
-    (λ i j. done _ _ _ (record w { items = i.0 }, i.1)
-    (λ z. (record { values = z.0.values; held = z.0.held; directives = z.0.directives; endings = z.0.endings; items = no_items w.items (e.items free) }, z.0.items, z.1))
-    (record { values = e.values; held = e.held; directives = e.directives; endings = e.endings; items = λ t. absurd cc; raw = e.raw; plain = e.plain; around = e.around }, j.1))
-
-all_flat : (is : List Item) → FlatIn (statements is) → FlatItems is
-all_flat [] h = tt
-all_flat (i ∷ is) h = let a : depth_in (statements (i ∷ is)) ≤ 512 = h in let b : depth_in (statements is) ≤ 512 = omega (arith, a) in (omega (arith, a), all_flat is b)
-
-statements_follows : (b : Flow) (w : Work) (x : Symbol) (xs : List Symbol) (ps : List Part) → Empty b w → Laid (x ∷ xs) ps → Follows (FlatGot (w, ps)) FlatGot (Stepped (adds b) xs) (with_statements w ps) (with_statements w ps)
-unfolding with_statements
-statements_follows b w x xs ps e laid =
-    andthen (FlatGot (w, ps)) (FlatList (FlatWork w)) (KnownItems xs) FlatGot (Stepped (adds b) xs) (taken_items ps) (taken_items ps) _ _ (items_follows (FlatWork w) x xs ps laid)
-    (λ i j. weaker ((FlatWork w × FlatParts i.1) × FlatIn (statements i.0)) (FlatList (FlatWork w) i) FlatGot (Stepped (adds b) xs) _ _ (λ h. (h.0.0, all_flat i.0 h.1, h.0.1)) (value_follows b (listed (statements i.0)) w xs i.1 e j.1))
+items_depth : (is : List Item) → depth_in (statements is) ≡ deep_items is
+items_depth [] = omega arith
+items_depth (i ∷ is) = omega (arith, items_depth is)
 
 -- what is a directive is not deep
-flat_behind : (o : Option NameId) (i : Item) (is : List Item) → SmallTree o i.statement → (FlatIn (statements (behind_directives is)) → FlatItems is)
-    → FlatIn (statements (behind_directive o (i ∷ is) (behind_directives is))) → FlatItems (i ∷ is)
-flat_behind None i is small rest h = all_flat (i ∷ is) h
-flat_behind (Some raw) i is small rest h = let a : depth i.statement ≤ 2 = small in (omega (arith, a), rest h)
+behind_by : (o : Option NameId) (i : Item) (is : List Item) → told o (depth i.statement) ≤ 2 → deep_items is ≤ max 2 (depth_in (statements (behind_directives is)))
+    → deep_items (i ∷ is) ≤ max 2 (depth_in (statements (behind_directive o (i ∷ is) (behind_directives is))))
+behind_by None i is small rest = omega (arith, items_depth is)
+behind_by (Some raw) i is small rest = omega (arith, small, rest)
 
-flat_items : (is : List Item) → RawItems is → FlatIn (statements (behind_directives is)) → FlatItems is
-flat_items [] raw h = tt
-flat_items (i ∷ is) raw h = flat_behind i.raw i is raw.0 (flat_items is raw.1) h
+behind_depth : (is : List Item) → told_items is ≤ 2 → deep_items is ≤ max 2 (depth_in (statements (behind_directives is)))
+behind_depth [] small = omega arith
+behind_depth (i ∷ is) small = behind_by i.raw i is (omega (arith, small)) (behind_depth is (omega (arith, small)))
 
-directives_from_follows : (C : Type 0) (o : Option NameId) (r q : Result Data Fault) → Follows C (λ ds. C) (λ ds. Unit {0}) r q → Follows C (λ ds. C) (λ ds. Unit {0}) (directives_from limited o r) (directives_from unlimited o q)
-directives_from_follows C None r q h = done _ _ _ none (λ c. c) tt
-directives_from_follows C (Some raw) r q h =
-    andthen C (λ t. C × Flat t) (λ t. branch kinds.Directive (one (name raw.0)) ≡ t) (λ ds. C) (λ ds. Unit {0}) (limited kinds.Directive (one (name raw.0))) (unlimited kinds.Directive (one (name raw.0))) (λ t. r >>= λ ds. Ok (more (child t) ds)) (λ t. q >>= λ ds. Ok (more (child t) ds)) (made_follows C kinds.Directive (one (name raw.0)))
-    (λ t j. weaker C (C × Flat t) (λ ds. C) (λ ds. Unit {0}) _ _ (λ c. (c, flat_directive raw t j)) (andthen C (λ ds. C) (λ ds. Unit {0}) (λ ds. C) (λ ds. Unit {0}) r q (λ ds. Ok (more (child t) ds)) (λ ds. Ok (more (child t) ds)) h (λ ds u. done _ _ _ (more (child t) ds) (λ c. c) tt)))
-  where
-    flat_directive : (raw : NameId) (t : Tree) → branch kinds.Directive (one (name raw.0)) ≡ t → Flat t
-    flat_directive raw t e = let z : depth (branch kinds.Directive (one (name raw.0))) ≤ 512 = omega arith in subst Flat e z
+-- values that are taken apart
+pub one_follows : {n : ℕ} (ds : Data) → Follows n (λ d. n) (λ d. (ds ≡ one d) × (depth_in ds ≡ depth_at d)) (one_value ds) (one_value ds)
+one_follows (more d none) = done (omega arith) (refl, omega arith)
+one_follows (more d (more e es)) = failed
+one_follows none = failed
 
-directives_follows : (C : Type 0) (is : List Item) → Follows C (λ ds. C) (λ ds. Unit {0}) (directives limited is) (directives unlimited is)
-directives_follows C [] = done _ _ _ none (λ c. c) tt
-directives_follows C (i ∷ is) = directives_from_follows C i.raw (directives limited is) (directives unlimited is) (directives_follows C is)
+pub first_follows : {n : ℕ} (ds : Data) → Follows n (λ f. n) (λ f. depth_in ds ≡ max (depth_at f.0) (depth_in f.1)) (first_value ds) (first_value ds)
+first_follows none = failed
+first_follows (more d ds) = done (omega arith) (omega arith)
 
-body_follows : (b : Flow) (w : Work) (x : Symbol) (xs : List Symbol) (ps : List Part) → b.directives ≡ false → Empty b w → Laid (x ∷ xs) ps → Follows (FlatGot (w, ps)) FlatGot (Stepped (with_body b) xs) (body limited w ps) (body unlimited w ps)
-unfolding body
-body_follows b w x xs ps free e laid =
-    andthen (FlatGot (w, ps)) (FlatList (FlatWork w)) (KnownItems xs) FlatGot (Stepped (with_body b) xs) (taken_items ps) (taken_items ps) _ _ (items_follows (FlatWork w) x xs ps laid)
-    (λ i j. andthen (FlatList (FlatWork w) i) (λ ds. FlatList (FlatWork w) i) (λ ds. Unit {0}) FlatGot (Stepped (with_body b) xs) (directives limited i.0) (directives unlimited i.0) _ _ (directives_follows (FlatList (FlatWork w) i) i.0)
-    (λ ds u. done _ _ _ (record w { values = join w.values (one (listed (statements (behind_directives i.0)))); directives = ds }, i.1)
-    (λ z. let s = flat_join w.values (one (listed (statements (behind_directives i.0)))) z.0.values
-    in let a : depth_in (one (listed (statements (behind_directives i.0)))) ≤ 512 = s.1
-    in let c : depth_in (statements (behind_directives i.0)) ≤ 512 = omega (arith, a)
-    in (record { values = s.0; held = z.0.held; directives = no_data w.directives (e.directives free); endings = z.0.endings; items = z.0.items }, flat_items i.0 j.0 c, z.1))
-    (record { values = λ t. absurd cc; held = e.held; directives = λ t. absurd cc; endings = e.endings; items = e.items; raw = e.raw; plain = e.plain; around = e.around }, j.1)))
+follows_number : {n : ℕ} (k : TokenKind) → Follows n (λ x. n) (λ x. Unit {0}) (number k) (number k)
+follows_number (tokens.Number n) = done (omega arith) tt
+follows_number _ = failed
 
-hold_follows : (b : Flow) (w : Work) (xs : List Symbol) (ps : List Part) → b.held ≡ false → Empty b w → Laid xs ps → Follows {A = Work × List Part} (FlatGot (w, ps)) FlatGot (Stepped (holds b) xs) (Ok (hold w, ps)) (Ok (hold w, ps))
-unfolding hold
-hold_follows b w xs ps free e laid =
-    done _ _ _ (hold w, ps) (λ z. (record { values = z.0.held; held = no_data w.held (e.held free); directives = z.0.directives; endings = z.0.endings; items = z.0.items }, z.1))
-    (record { values = λ t. refl; held = e.values; directives = e.directives; endings = e.endings; items = e.items; raw = e.raw; plain = e.plain; around = e.around }, laid)
+values_follows : {n : ℕ} (x : Symbol) (xs : List Symbol) (ps : List Part) → Laid (x ∷ xs) ps
+    → Follows n (λ v. n) (λ v. (deep_parts ps ≡ max (depth_in v.0.0) (deep_parts v.1)) × Laid xs v.1) (taken_values ps) (taken_values ps)
+values_follows x xs (parts.Values ds raw ∷ ps) laid = done (omega arith) (omega arith, laid.1)
+values_follows x xs _ laid = failed
 
-resume_follows : (b : Flow) (w : Work) (xs : List Symbol) (ps : List Part) → Empty b w → Laid xs ps → Follows {A = Work × List Part} (FlatGot (w, ps)) FlatGot (Stepped (resumes b) xs) (Ok (resume w, ps)) (Ok (resume w, ps))
-unfolding resume
-resume_follows b w xs ps e laid =
-    done _ _ _ (resume w, ps)
-    (λ z. let s = flat_join w.held (more (listed w.directives) w.values) z.0.values
-    in let a : depth_in (more (listed w.directives) w.values) ≤ 512 = s.1
-    in (record { values = omega (arith, a); held = s.0; directives = omega (arith, a); endings = z.0.endings; items = z.0.items }, z.1))
-    (record { values = λ t. absurd cc; held = λ t. refl; directives = λ t. refl; endings = e.endings; items = e.items; raw = e.raw; plain = e.plain; around = e.around }, laid)
+abbrev pub Stepped : Flow → List Symbol → Work × List Part → Type 0
+Stepped b xs r = Within b r.0 × Laid xs r.1
 
--- the work but for its values
-record FlatRest (w : Work) : Type 0 where
-  held : FlatIn w.held
-  directives : FlatIn w.directives
-  endings : FlatEndings w.endings
-  items : FlatItems w.items
+value_follows : {n : ℕ} {b : Flow} {w : Work} {ps : List Part} (d : Datum) (xs : List Symbol) → n ≤ max 512 (max (deep_got (w, ps)) (depth_at d)) → Within b w → Laid xs ps
+    → Follows n deep_got (Stepped (adds b) xs) (with_value d w ps) (with_value d w ps)
+value_follows d xs below e laid = done (omega (arith, below, depth_join)) (omega (arith, e, quiet), laid)
 
-close_follows : (k : Kind) (b : Flow) (w : Work) (xs : List Symbol) (ps : List Part) → Empty b w → Laid xs ps
-    → Follows (FlatGot (w, ps)) FlatGot (Stepped (adds b) xs) (closed limited k w >>= λ x. Ok (x, ps)) (closed unlimited k w >>= λ x. Ok (x, ps))
+parameter_of_follows : {n : ℕ} (c : ℕ) (t : Tree) (d : Datum) → n ≤ max 512 (max c (max (depth t) (depth_at d))) → Follows n (λ u. max c (depth u)) (λ u. Unit {0}) (parameter_of limited t d) (parameter_of unlimited t d)
+parameter_of_follows c t absent below = done (omega (arith, below)) tt
+parameter_of_follows c t (child u) below = node c kinds.BindingWithInitializer (two (child t) (child u)) (omega (arith, below)) tt
+parameter_of_follows c t _ below = failed
+
+directive_follows : {n : ℕ} (o : Option NameId) (r q : Result Data Fault) → ((n : ℕ) → Follows n (λ ds. n) (λ ds. Unit {0}) r q) → Follows n (λ ds. n) (λ ds. Unit {0}) (directives_from limited o r) (directives_from unlimited o q)
+directive_follows None r q h = done (omega arith) tt
+directive_follows (Some raw) r q h =
+    andthen {f = λ t. r >>= λ ds. Ok (more (child t) ds)} {g = λ t. q >>= λ ds. Ok (more (child t) ds)} (made kinds.Directive (one (name raw.0))) (λ t same. andthen (h _) (λ ds u. done (omega (arith, same)) tt))
+
+directives_follow : (is : List Item) (n : ℕ) → Follows n (λ ds. n) (λ ds. Unit {0}) (directives limited is) (directives unlimited is)
+directives_follow [] n = done (omega arith) tt
+directives_follow (i ∷ is) n = directive_follows i.raw (directives limited is) (directives unlimited is) (directives_follow is)
+
+close_follows : {n : ℕ} {b : Flow} (c : ℕ) (k : Kind) (w : Work) → n ≤ max 512 (max c (deep_work w)) → Within b w → Follows n (λ x. max c (deep_work x)) (Within (adds b)) (closed limited k w) (closed unlimited k w)
 unfolding closed
-close_follows k b w xs ps e laid =
-    andthen (FlatGot (w, ps)) (λ x. FlatWork x × FlatParts ps) (λ x. Empty (adds b) x) FlatGot (Stepped (adds b) xs) (closed limited k w) (closed unlimited k w) (λ x. Ok (x, ps)) (λ x. Ok (x, ps))
-    (andthen (FlatGot (w, ps)) (λ t. (FlatRest w × FlatParts ps) × Flat t) (λ t. branch k w.values ≡ t) (λ x. FlatWork x × FlatParts ps) (λ x. Empty (adds b) x) (limited k w.values) (unlimited k w.values) (λ t. Ok (record w { values = one (child t) })) (λ t. Ok (record w { values = one (child t) }))
-    (weaker ((FlatRest w × FlatParts ps) × FlatIn w.values) (FlatGot (w, ps)) (λ t. (FlatRest w × FlatParts ps) × Flat t) (λ t. branch k w.values ≡ t) (limited k w.values) (unlimited k w.values)
-    (λ h. (record { values = h.1; held = h.0.0.held; directives = h.0.0.directives; endings = h.0.0.endings; items = h.0.0.items }, h.0.1)) (node_follows (FlatRest w × FlatParts ps) k w.values))
-    (λ t j. done _ _ _ (record w { values = one (child t) }) (λ z. ((record { held = z.0.held; directives = z.0.directives; endings = z.0.endings; items = z.0.items }, z.1), alone (child t) z.0.values)) (added b w (one (child t)) e)))
-    (λ x j. done _ _ _ (x, ps) (λ z. z) (j, laid))
+close_follows c k w below e = andthen (made k w.values) (λ t same. done (omega (arith, below, same)) (omega (arith, e, quiet)))
 
-step_follows : (s : Step) (b : Flow) (w : Work) (xs outer : List Symbol) (ps : List Part) → may_step s xs b ≡ true → Empty b w → Laid (xs ++ outer) ps
-    → Follows (FlatGot (w, ps)) FlatGot (Stepped (after s xs b) (left_by s xs ++ outer)) (step_on limited s w ps) (step_on unlimited s w ps)
-step_follows steps.Skip b w (x ∷ xs) outer ps may e laid = skip_follows b w x (xs ++ outer) ps may e laid
-step_follows steps.Put b w (x ∷ xs) outer ps may e laid = put_follows b w x (xs ++ outer) ps e laid
-step_follows steps.Operand b w (x ∷ xs) outer ps may e laid = operand_follows b w x (xs ++ outer) ps e laid
-step_follows steps.Wrap b w (x ∷ xs) outer ps may e laid = wrap_follows b w x (xs ++ outer) ps e laid
-step_follows steps.Text b w (x ∷ xs) outer ps may e laid = text_follows b w x (xs ++ outer) ps e laid
-step_follows steps.Whole b w (x ∷ xs) outer ps may e laid = whole_follows b w x (xs ++ outer) ps e laid
-step_follows (steps.Named k) b w (x ∷ xs) outer ps may e laid = named_follows k b w x (xs ++ outer) ps e laid
-step_follows steps.Quoted b w (x ∷ xs) outer ps may e laid = quoted_follows b w x (xs ++ outer) ps e laid
-step_follows (steps.Operator o) b w (x ∷ xs) outer ps may e laid = operator_follows o b w x (xs ++ outer) ps e laid
-step_follows steps.Parameter b w (x ∷ y ∷ xs) outer ps may e laid = parameter_follows b w x y (xs ++ outer) ps e laid
-step_follows steps.TemplatePart b w (x ∷ y ∷ xs) outer ps may e laid = template_follows b w x y (xs ++ outer) ps e laid
-step_follows steps.Tail b w (x ∷ xs) outer ps may e laid = tail_follows b w x (xs ++ outer) ps e laid
-step_follows steps.Rest b w (x ∷ xs) outer ps may e laid = rest_follows b w x (xs ++ outer) ps (is_not b.items may) e laid
-step_follows steps.Statements b w (x ∷ xs) outer ps may e laid = statements_follows b w x (xs ++ outer) ps e laid
-step_follows steps.Body b w (x ∷ xs) outer ps may e laid = body_follows b w x (xs ++ outer) ps (is_not b.directives may) e laid
-step_follows steps.Absent b w xs outer ps may e laid = plain_value b absent w (xs ++ outer) ps e laid
-step_follows steps.NoLabel b w xs outer ps may e laid = plain_value b no_name w (xs ++ outer) ps e laid
-step_follows steps.NoItems b w xs outer ps may e laid = plain_value b (listed none) w (xs ++ outer) ps e laid
-step_follows (steps.Flag f) b w xs outer ps may e laid = plain_value b (flag f) w (xs ++ outer) ps e laid
-step_follows (steps.Choice n) b w xs outer ps may e laid = plain_value b (choice n) w (xs ++ outer) ps e laid
-step_follows (steps.Scope k) b w xs outer ps may e laid =
-    tree_follows (FlatGot (w, ps)) (λ t. branch k no_names ≡ t) (limited k no_names) (unlimited k no_names) b w (xs ++ outer) ps e laid (made_follows (FlatGot (w, ps)) k no_names)
-step_follows steps.ParameterScope b w xs outer ps may e laid =
-    tree_follows (FlatGot (w, ps)) (λ t. branch kinds.AssertedParameterScope no_parameter_names ≡ t) (limited kinds.AssertedParameterScope no_parameter_names) (unlimited kinds.AssertedParameterScope no_parameter_names) b w (xs ++ outer) ps e laid
-    (made_follows (FlatGot (w, ps)) kinds.AssertedParameterScope no_parameter_names)
-step_follows steps.Hold b w xs outer ps may e laid = hold_follows b w (xs ++ outer) ps (is_not b.held may) e laid
-step_follows steps.Resume b w xs outer ps may e laid = resume_follows b w (xs ++ outer) ps e laid
-step_follows (steps.Close k) b w xs outer ps may e laid = close_follows k b w (xs ++ outer) ps e laid
-step_follows _ b w _ outer ps may e laid = absurd cc
+step_follows : (s : Step) (b : Flow) (w : Work) (xs outer : List Symbol) (ps : List Part) → nat_le (takes s) (length xs) ≡ true → lost s xs b ≡ 0 → Within b w → Laid (xs ++ outer) ps
+    → Follows (deep_got (w, ps)) deep_got (Stepped (after s xs b) (left_by s xs ++ outer)) (step_on limited s w ps) (step_on unlimited s w ps)
+unfolding skip put operand wrap text whole_number named quoted with_operator parameter template_part tail rest with_statements body hold resume
+step_follows steps.Skip b w (x ∷ xs) outer (p ∷ ps) enough kept e laid = done (omega (arith, laid.0.leaf (omega (arith, kept)))) (e, laid.1)
+step_follows steps.Put b w (x ∷ xs) outer (parts.Values ds raw ∷ ps) enough kept e laid = done (omega (arith, depth_join)) (omega (arith, e, quiet), laid.1)
+step_follows steps.Operand b w (x ∷ xs) outer (parts.Values ds raw ∷ ps) enough kept e laid =
+    done (omega (arith, depth_join)) (omega (arith, e, laid.0, told_join raw w.values ds, told_most raw (depth_in w.held), noise_most raw, bounds x), laid.1)
+step_follows steps.Wrap b w (x ∷ xs) outer (parts.Values ds raw ∷ ps) enough kept e laid = value_follows _ _ (omega arith) e laid.1
+step_follows steps.Text b w (x ∷ xs) outer (parts.Token l ∷ ps) enough kept e laid =
+    andthen (follows_there l.text) (λ n u. done (omega (arith, depth_join)) (omega (arith, e, quiet, depth_join), laid.1))
+step_follows steps.Whole b w (x ∷ xs) outer (parts.Token l ∷ ps) enough kept e laid = andthen (follows_number l.kind) (λ n u. value_follows _ _ (omega arith) e laid.1)
+step_follows (steps.Named k) b w (x ∷ xs) outer (parts.Token l ∷ ps) enough kept e laid =
+    andthen (follows_there l.text) (λ n u. andthen (made k (one (name n.0))) (λ t same. value_follows (child t) _ (omega arith) e laid.1))
+step_follows steps.Quoted b w (x ∷ xs) outer (parts.Token l ∷ ps) enough kept e laid =
+    andthen (follows_there l.text) (λ n u. andthen (made kinds.LiteralStringExpression (one (name n.0))) (λ t same.
+    done {z = (record w { values = join w.values (one (child t)); raw = l.raw }, ps)} (omega (arith, depth_join)) (omega (arith, e, same, depth_join, told_most, noise_most l.raw), laid.1)))
+step_follows (steps.Operator o) b w (x ∷ xs) outer (parts.Token l ∷ ps) enough kept e laid = andthen (follows_there (operator o l.kind)) (λ n u. value_follows _ _ (omega arith) e laid.1)
+step_follows steps.Parameter b w (x ∷ y ∷ xs) outer (parts.Token l ∷ ps) enough kept e laid =
+    andthen (follows_there l.text) (λ n u. andthen (made kinds.BindingIdentifier (one (name n.0))) (λ t same. andthen (values_follows y (xs ++ outer) ps laid.1) (λ v vs. andthen (one_follows v.0.0) (λ d is.
+    andthen (parameter_of_follows (deep_got (w, v.1)) t d (omega (arith, vs.0, is.1))) (λ p j. value_follows (child p) _ (omega arith) e vs.1)))))
+step_follows steps.TemplatePart b w (x ∷ y ∷ xs) outer (parts.Values ds raw ∷ ps) enough kept e laid =
+    andthen (one_follows ds) (λ d is. andthen (values_follows y (xs ++ outer) ps laid.1) (λ v vs. andthen (first_follows v.0.0) (λ f all. andthen (made kinds.TemplatePart (two d f.0)) (λ t same.
+    done (omega (arith, is.1, vs.0, all, same, depth_join)) (omega (arith, e, quiet), vs.1)))))
+step_follows steps.Tail b w (x ∷ xs) outer (parts.Endings es ∷ ps) enough kept e laid =
+    done (omega (arith, deep_append w.endings es)) (omega (arith, e, laid.0, ranks_append w.endings es, behind_append w.endings es), laid.1)
+step_follows steps.Rest b w (x ∷ xs) outer (parts.Items is ∷ ps) enough kept e laid = done (omega (arith, e.items (omega (arith, kept)))) (omega (arith, e, laid.0, bounds x), laid.1)
+step_follows steps.Statements b w (x ∷ xs) outer (parts.Items is ∷ ps) enough kept e laid = value_follows _ _ (omega (arith, items_depth is)) e laid.1
+step_follows steps.Body b w (x ∷ xs) outer (parts.Items is ∷ ps) enough kept e laid =
+    let small : told_items is ≤ 2 = omega (arith, laid.0, bounds x)
+    in andthen (directives_follow is _) (λ ds u. done (omega (arith, e.directives (omega (arith, kept)), behind_depth is small, depth_join)) (omega (arith, e, quiet), laid.1))
+step_follows steps.Absent b w xs outer ps enough kept e laid = value_follows _ _ (omega arith) e laid
+step_follows steps.NoLabel b w xs outer ps enough kept e laid = value_follows _ _ (omega arith) e laid
+step_follows steps.NoItems b w xs outer ps enough kept e laid = value_follows _ _ (omega arith) e laid
+step_follows (steps.Flag f) b w xs outer ps enough kept e laid = value_follows _ _ (omega arith) e laid
+step_follows (steps.Choice n) b w xs outer ps enough kept e laid = value_follows _ _ (omega arith) e laid
+step_follows (steps.Scope k) b w xs outer ps enough kept e laid = andthen (made k no_names) (λ t same. value_follows (child t) _ (omega arith) e laid)
+step_follows steps.ParameterScope b w xs outer ps enough kept e laid = andthen (made kinds.AssertedParameterScope no_parameter_names) (λ t same. value_follows (child t) _ (omega arith) e laid)
+step_follows steps.Hold b w xs outer ps enough kept e laid = done (omega (arith, e.held (omega (arith, kept)))) (omega (arith, e, told_most), laid)
+step_follows steps.Resume b w xs outer ps enough kept e laid = done (omega (arith, depth_join)) (omega (arith, e, quiet, told_most), laid)
+step_follows (steps.Close k) b w xs outer ps enough kept e laid = andthen (close_follows (deep_parts ps) k w (omega arith) e) (λ x j. done (omega arith) (j, laid))
+step_follows _ b w _ outer _ enough kept e laid = first_of (search failed, cc)
 
-pub all_follow : (ss : List Step) (b : Flow) (w : Work) (xs outer : List Symbol) (ps : List Part) → may_all ss xs b ≡ true → Empty b w → Laid (xs ++ outer) ps
-    → Follows (FlatGot (w, ps)) FlatGot (Stepped (after_all ss xs b) (left_by_all ss xs ++ outer)) (gathered limited ss w ps) (gathered unlimited ss w ps)
-all_follow [] b w xs outer ps may e laid = done _ _ _ (w, ps) (λ z. z) (e, laid)
+pub all_follow : (ss : List Step) (b : Flow) (w : Work) (xs outer : List Symbol) (ps : List Part) → may_all ss xs b ≡ true → Within b w → Laid (xs ++ outer) ps
+    → Follows (deep_got (w, ps)) deep_got (Stepped (after_all ss xs b) (left_by_all ss xs ++ outer)) (gathered limited ss w ps) (gathered unlimited ss w ps)
+all_follow [] b w xs outer ps may e laid = done (omega arith) (e, laid)
 all_follow (s ∷ ss) b w xs outer ps may e laid =
-    let m = both (may_step s xs b) (may_all ss (left_by s xs) (after s xs b)) may
-    in andthen (FlatGot (w, ps)) FlatGot (Stepped (after s xs b) (left_by s xs ++ outer)) FlatGot (Stepped (after_all (s ∷ ss) xs b) (left_by_all (s ∷ ss) xs ++ outer)) (step_on limited s w ps) (step_on unlimited s w ps) _ _
-    (step_follows s b w xs outer ps m.0 e laid) (λ r j. all_follow ss (after s xs b) r.0 (left_by s xs) outer r.1 m.1 j.0 j.1)
+    let m = both (nat_le (takes s) (length xs) && (lost s xs b == 0)) (may_all ss (left_by s xs) (after s xs b)) may
+    in let here = both (nat_le (takes s) (length xs)) (lost s xs b == 0) m.0
+    in andthen (step_follows s b w xs outer ps here.0 (eqb-true (lost s xs b) 0 here.1) e laid) (λ r j. all_follow ss (after s xs b) r.0 (left_by s xs) outer r.1 m.1 j.0 j.1)

@@ -1,15 +1,14 @@
--- What is made with the limit follows what is made without it: it is the same, or a tree that is too deep stands in the other.
-use Rattle.std.proofs.Common.{◌≡◌, ◌≤◌, ℕ, max, cond, Bool, true, false, List, [], ◌∷◌, ◌++◌, Option, Some, None, Result, Ok, Err, refl, sym, subst, arith}
+-- What is made with the limit follows what is made without it: it is the same, or the other is too deep, and nothing deep is lost.
+use Rattle.std.proofs.Common.{◌≡◌, ◌≤◌, ◌<◌, ℕ, max, cond, Bool, true, false, List, [], ◌∷◌, Option, Some, None, Result, Ok, Err, refl, sym, subst, arith}
 use Rattle.std.specs.Prelude.{nat_lt}
 use Rattle.std.proofs.lemmas.Bool.{ltb-true}
 use Rattle.bast_schema.specs.declared.kind.Kind.{Kind}
 use Rattle.bast_schema.specs.declared.node.NodeFault.TheVariants.{TooDeep}
-use Rattle.bast_schema.specs.Counts.{join}
 use Rattle.bast_schema.specs.Fields.{fields}
 use Rattle.bast_schema.specs.Made.{node_or}
-use Rattle.bast_schema.specs.Tree.{Tree, branch, Data, none, more, depth, depth_in, first_wrong}
+use Rattle.bast_schema.specs.Tree.{Tree, branch, Data, depth, depth_in, first_wrong}
 use Rattle.js_tree.specs.Nodes.{limited, unlimited, of_node}
-use Rattle.js_tree.specs.Results.{◌>>=◌, broken}
+use Rattle.js_tree.specs.Results.{◌>>=◌, broken, there}
 use Rattle.js_tree.specs.declared.fault.Fault.{Fault}
 use Rattle.js_tree.specs.declared.fault.Fault.TheVariants as faults
 use Rattle.js_tree.specs.declared.parts.Part.{Part}
@@ -22,154 +21,144 @@ use Rattle.js_tree.specs.declared.parts.Item.{Item}
 use Rattle.js_tree.specs.declared.work.Work.{Work}
 use Rattle.js_tree.proofs.Holding.{Holds}
 
-pub mapped : {A : Type 0} (Q R : A → Type 0) (r : Result A Fault) → ((x : A) → Q x → R x) → Holds Q r → Holds R r
-mapped Q R (Ok x) f h = f x h
-mapped Q R (Err e) f h = tt
+-- how deep the deepest tree is that stands there
+abbrev pub deep_form : Form → ℕ
+deep_form (forms.Contents body) = depth_in body
+deep_form (forms.Declared ds) = depth_in ds
+deep_form _ = 0
 
--- the same result, or one that is not shallow
-abbrev pub Agrees : {A : Type 0} → (A → Type 0) → Result A Fault → Result A Fault → Type 0
-Agrees T (Ok x) q = q ≡ Ok x
-Agrees T (Err faults.TooDeep) q = Holds (λ y. T y → ⊥) q
-Agrees T (Err faults.Broken) q = Unit {0}
-Agrees T (Err faults.Memory) q = Unit {0}
+abbrev pub deep_ending : Ending → ℕ
+deep_ending (endings.Around k form before behind) = max (deep_form form) (max (depth_in before) (depth_in behind))
+deep_ending (endings.Instead t) = depth t
+
+abbrev pub deep_endings : List Ending → ℕ
+deep_endings [] = 0
+deep_endings (e ∷ es) = max (deep_ending e) (deep_endings es)
+
+abbrev pub deep_items : List Item → ℕ
+deep_items [] = 0
+deep_items (i ∷ is) = max (depth i.statement) (deep_items is)
+
+abbrev pub deep_part : Part → ℕ
+deep_part (parts.Values ds raw) = depth_in ds
+deep_part (parts.Endings es) = deep_endings es
+deep_part (parts.Items is) = deep_items is
+deep_part _ = 0
+
+abbrev pub deep_parts : List Part → ℕ
+deep_parts [] = 0
+deep_parts (p ∷ ps) = max (deep_part p) (deep_parts ps)
+
+abbrev pub deep_work : Work → ℕ
+deep_work w = max (depth_in w.values) (max (depth_in w.held) (max (depth_in w.directives) (max (deep_endings w.endings) (deep_items w.items))))
+
+abbrev pub deep_got : Work × List Part → ℕ
+deep_got r = max (deep_work r.0) (deep_parts r.1)
+
+-- it is too deep, if it is there
+abbrev pub Deep : {A : Type 0} → (A → ℕ) → Result A Fault → Type 0
+Deep d (Ok x) = 512 < d x
+Deep d (Err faults.TooDeep) = ⊥
+Deep d _ = Unit {0}
 
 -- it is not refused for its depth
 abbrev pub Unrefused : {A : Type 0} → Result A Fault → Type 0
-Unrefused (Ok x) = Unit {0}
 Unrefused (Err faults.TooDeep) = ⊥
-Unrefused (Err faults.Broken) = Unit {0}
-Unrefused (Err faults.Memory) = Unit {0}
+Unrefused _ = Unit {0}
 
--- it agrees, the other is not refused for its depth, what went into a shallow result was shallow, and this is known of the
--- result
-pub record Follows {A : Type 0} (S : Type 0) (T K : A → Type 0) (r q : Result A Fault) : Type 0 where
-  pub agrees : Agrees T r q
-  pub unrefused : Unrefused q
-  pub back : Holds (λ z. T z → S) q
-  pub fact : Holds K q
+-- the same result, or one that is too deep
+abbrev pub Agrees : {A : Type 0} → (A → ℕ) → Result A Fault → Result A Fault → Type 0
+Agrees d (Ok x) q = q ≡ Ok x
+Agrees d (Err faults.TooDeep) q = Deep d q
+Agrees d _ q = Unrefused q
 
-pub done : {A : Type 0} (S : Type 0) (T K : A → Type 0) (z : A) → (T z → S) → K z → Follows S T K (Ok z) (Ok z)
-done S T K z back fact = record { agrees = refl; unrefused = tt; back = back; fact = fact }
+-- a tree that is too deep and went in is still there, and this is known of the result
+abbrev Keeps : {A : Type 0} → ℕ → (A → ℕ) → (A → Type 0) → Result A Fault → Type 0
+Keeps n d K q = Holds (λ z. (n ≤ max 512 (d z)) × K z) q
 
-pub failed : {A : Type 0} (S : Type 0) (T K : A → Type 0) → Follows {A = A} S T K broken broken
-failed S T K = record { agrees = tt; unrefused = tt; back = tt; fact = tt }
+pub record Follows {A : Type 0} (n : ℕ) (d : A → ℕ) (K : A → Type 0) (r q : Result A Fault) : Type 0 where
+  pub agrees : Agrees d r q
+  pub keeps : Keeps n d K q
 
-same_result : {A : Type 0} (T : A → Type 0) (r : Result A Fault) → Agrees T r r
-same_result T (Ok x) = refl
-same_result T (Err faults.TooDeep) = tt
-same_result T (Err faults.Broken) = tt
-same_result T (Err faults.Memory) = tt
+pub done : {A : Type 0} {n : ℕ} {d : A → ℕ} {K : A → Type 0} {z : A} → n ≤ max 512 (d z) → K z → Follows n d K (Ok z) (Ok z)
+done below fact = record { agrees = refl; keeps = (below, fact) }
 
-pub alike : {A : Type 0} (S : Type 0) (T K : A → Type 0) (r : Result A Fault) → Unrefused r → Holds (λ z. T z → S) r → Holds K r → Follows S T K r r
-alike S T K r unrefused back fact = record { agrees = same_result T r; unrefused = unrefused; back = back; fact = fact }
+pub failed : {A : Type 0} {n : ℕ} {d : A → ℕ} {K : A → Type 0} → Follows {A = A} n d K broken broken
+failed = record { agrees = tt; keeps = tt }
 
-pub weaker : {A : Type 0} (S R : Type 0) (T K : A → Type 0) (r q : Result A Fault) → (S → R) → Follows S T K r q → Follows R T K r q
-weaker S R T K r q f h = record { agrees = h.agrees; unrefused = h.unrefused; back = mapped (λ z. T z → S) (λ z. T z → R) q (λ z g t. f (g t)) h.back; fact = h.fact }
+raised : {A : Type 0} (n m : ℕ) (d : A → ℕ) (K : A → Type 0) (q : Result A Fault) → n ≤ max 512 m → Keeps m d K q → Keeps n d K q
+raised n m d K (Ok z) below h = (omega (arith, below, h.0), h.1)
+raised n m d K (Err e) below h = tt
 
-pub known : {A : Type 0} (S : Type 0) (T K L : A → Type 0) (r q : Result A Fault) → Holds L q → Follows S T K r q → Follows S T L r q
-known S T K L r q fact h = record { agrees = h.agrees; unrefused = h.unrefused; back = h.back; fact = fact }
+pub weaker : {A : Type 0} {n m : ℕ} {d : A → ℕ} {K : A → Type 0} {r q : Result A Fault} → n ≤ max 512 m → Follows m d K r q → Follows n d K r q
+weaker {n = n} {m = m} {d = d} {K = K} {q = q} below h = record { agrees = h.agrees; keeps = raised n m d K q below h.keeps }
 
-go_on : {A B : Type 0} (S : Type 0) (U J : A → Type 0) (T K : B → Type 0) (q : Result A Fault) (g : A → Result B Fault)
-    → Holds (λ y. U y → S) q → Holds J q → ((y : A) → J y → Holds (λ z. T z → U y) (g y) × Holds K (g y)) → Holds (λ z. T z → S) (q >>= g) × Holds K (q >>= g)
-go_on S U J T K (Err e) g back fact next = (tt, tt)
-go_on S U J T K (Ok y) g back fact next = let n = next y fact in (mapped (λ z. T z → U y) (λ z. T z → S) (g y) (λ z h t. back (h t)) n.0, n.1)
+pub unrefused_of : {A : Type 0} (d : A → ℕ) (r q : Result A Fault) → Agrees d r q → Unrefused q
+unrefused_of d (Ok x) q is = subst Unrefused (sym is) tt
+unrefused_of d (Err faults.TooDeep) (Ok y) is = tt
+unrefused_of d (Err faults.TooDeep) (Err faults.TooDeep) is = is
+unrefused_of d (Err faults.TooDeep) _ is = tt
+unrefused_of d _ q is = is
 
-deep_on : {A B : Type 0} (U J : A → Type 0) (T : B → Type 0) (q : Result A Fault) (g : A → Result B Fault)
-    → Holds (λ y. U y → ⊥) q → Holds J q → ((y : A) → J y → Holds (λ z. T z → U y) (g y)) → Holds (λ z. T z → ⊥) (q >>= g)
-deep_on U J T (Err e) g deep fact next = tt
-deep_on U J T (Ok y) g deep fact next = mapped (λ z. T z → U y) (λ z. T z → ⊥) (g y) (λ z h t. deep (h t)) (next y fact)
+deeper : {A : Type 0} (n : ℕ) (d : A → ℕ) (K : A → Type 0) (q : Result A Fault) → 512 < n → Keeps n d K q → Unrefused q → Deep d q
+deeper n d K (Ok z) deep h u = omega (arith, deep, h.0)
+deeper n d K (Err faults.TooDeep) deep h u = u
+deeper n d K _ deep h u = tt
 
-agree_on : {A B : Type 0} (U J : A → Type 0) (T : B → Type 0) (r q : Result A Fault) (f g : A → Result B Fault)
-    → Agrees U r q → Holds J q → ((x : A) → J x → Agrees T (f x) (g x)) → ((y : A) → J y → Holds (λ z. T z → U y) (g y)) → Agrees T (r >>= f) (q >>= g)
-agree_on U J T (Ok x) q f g agrees fact next back =
-    subst (λ q. Holds J q → Agrees T (f x) (q >>= g)) (sym agrees) (next x) fact
-agree_on U J T (Err faults.TooDeep) q f g agrees fact next back = deep_on U J T q g agrees fact back
-agree_on U J T (Err faults.Broken) q f g agrees fact next back = tt
-agree_on U J T (Err faults.Memory) q f g agrees fact next back = tt
+-- one behind the other
+module _ {A B : Type 0} (n : ℕ) (d : A → ℕ) (J : A → Type 0) (e : B → ℕ) (K : B → Type 0) (f g : A → Result B Fault) (next : (x : A) → J x → Follows (d x) e K (f x) (g x)) where
+  keeps_on : (q : Result A Fault) → Keeps n d J q → Keeps n e K (q >>= g)
+  keeps_on (Ok x) h = raised n (d x) e K (g x) h.0 (next x h.1).keeps
+  keeps_on (Err _) h = tt
 
-unrefused_on : {A B : Type 0} (J : A → Type 0) (q : Result A Fault) (g : A → Result B Fault) → Unrefused q → Holds J q → ((y : A) → J y → Unrefused (g y)) → Unrefused (q >>= g)
-unrefused_on J (Ok y) g u fact next = next y fact
-unrefused_on J (Err faults.TooDeep) g u fact next = u
-unrefused_on J (Err faults.Broken) g u fact next = tt
-unrefused_on J (Err faults.Memory) g u fact next = tt
+  deep_on : (q : Result A Fault) → Keeps n d J q → Deep d q → Deep e (q >>= g)
+  deep_on (Ok x) h deep = let s = next x h.1 in deeper (d x) e K (g x) deep s.keeps (unrefused_of e (f x) (g x) s.agrees)
+  deep_on (Err faults.TooDeep) h deep = deep
+  deep_on _ h deep = tt
 
-pub andthen : {A B : Type 0} (S : Type 0) (U J : A → Type 0) (T K : B → Type 0) (r q : Result A Fault) (f g : A → Result B Fault)
-    → Follows S U J r q → ((x : A) → J x → Follows (U x) T K (f x) (g x)) → Follows S T K (r >>= f) (q >>= g)
-andthen S U J T K r q f g h next =
-    let o = go_on S U J T K q g h.back h.fact (λ y j. ((next y j).back, (next y j).fact))
-    in record {
-      agrees = agree_on U J T r q f g h.agrees h.fact (λ x j. (next x j).agrees) (λ y j. (next y j).back);
-      unrefused = unrefused_on J q g h.unrefused h.fact (λ y j. (next y j).unrefused);
-      back = o.0;
-      fact = o.1;
-    }
+  unrefused_on : (q : Result A Fault) → Keeps n d J q → Unrefused q → Unrefused (q >>= g)
+  unrefused_on (Ok x) h u = unrefused_of e (f x) (g x) (next x h.1).agrees
+  unrefused_on (Err faults.TooDeep) h u = u
+  unrefused_on _ h u = tt
 
--- a tree that is not too deep
-abbrev pub Flat : Tree → Type 0
-Flat t = depth t ≤ 512
+  agree_on : (r q : Result A Fault) → Keeps n d J q → Agrees d r q → Agrees e (r >>= f) (q >>= g)
+  agree_on (Ok x) q h is = subst (λ q. Keeps n d J q → Agrees e (f x) (q >>= g)) (sym is) (λ h. (next x h.1).agrees) h
+  agree_on (Err faults.TooDeep) q h is = deep_on q h is
+  agree_on _ q h is = unrefused_on q h is
 
-abbrev pub FlatIn : Data → Type 0
-FlatIn ds = depth_in ds ≤ 512
+pub andthen : {A B : Type 0} {n : ℕ} {d : A → ℕ} {J : A → Type 0} {e : B → ℕ} {K : B → Type 0} {r q : Result A Fault} {f g : A → Result B Fault}
+    → Follows n d J r q → ((x : A) → J x → Follows (d x) e K (f x) (g x)) → Follows n e K (r >>= f) (q >>= g)
+andthen {n = n} {d = d} {J = J} {e = e} {K = K} {r = r} {q = q} {f = f} {g = g} h next =
+    record { agrees = agree_on n d J e K f g next r q h.keeps h.agrees; keeps = keeps_on n d J e K f g next q h.keeps }
 
-abbrev pub FlatForm : Form → Type 0
-FlatForm (forms.Contents body) = FlatIn body
-FlatForm (forms.Declared ds) = FlatIn ds
-FlatForm _ = Unit {0}
+known_of : {A : Type 0} (n : ℕ) (d : A → ℕ) (K L : A → Type 0) (q : Result A Fault) → Keeps n d K q → Holds L q → Keeps n d (λ z. K z × L z) q
+known_of n d K L (Ok z) h l = (h.0, (h.1, l))
+known_of n d K L (Err e) h l = tt
 
-abbrev pub FlatEnding : Ending → Type 0
-FlatEnding (endings.Around k form before behind) = FlatForm form × FlatIn before × FlatIn behind
-FlatEnding (endings.Instead t) = Flat t
+-- what is known of the result besides
+pub known : {A : Type 0} {n : ℕ} {d : A → ℕ} {K L : A → Type 0} {r q : Result A Fault} → Holds L q → Follows n d K r q → Follows n d (λ z. K z × L z) r q
+known {n = n} {d = d} {K = K} {L = L} {q = q} l h = record { agrees = h.agrees; keeps = known_of n d K L q h.keeps l }
 
-abbrev pub FlatEndings : List Ending → Type 0
-FlatEndings [] = Unit {0}
-FlatEndings (e ∷ es) = FlatEnding e × FlatEndings es
+pub follows_there : {A : Type 0} {n : ℕ} (o : Option A) → Follows n (λ x. n) (λ x. Unit {0}) (there o) (there o)
+follows_there None = failed
+follows_there (Some x) = done (omega arith) tt
 
-abbrev pub FlatItems : List Item → Type 0
-FlatItems [] = Unit {0}
-FlatItems (i ∷ is) = Flat i.statement × FlatItems is
-
-abbrev pub FlatPart : Part → Type 0
-FlatPart (parts.Values ds raw) = FlatIn ds
-FlatPart (parts.Endings es) = FlatEndings es
-FlatPart (parts.Items is) = FlatItems is
-FlatPart _ = Unit {0}
-
-abbrev pub FlatParts : List Part → Type 0
-FlatParts [] = Unit {0}
-FlatParts (p ∷ ps) = FlatPart p × FlatParts ps
-
-pub record FlatWork (w : Work) : Type 0 where
-  pub values : FlatIn w.values
-  pub held : FlatIn w.held
-  pub directives : FlatIn w.directives
-  pub endings : FlatEndings w.endings
-  pub items : FlatItems w.items
-
-abbrev pub FlatGot : Work × List Part → Type 0
-FlatGot r = FlatWork r.0 × FlatParts r.1
-
-pub depth_join : (ds es : Data) → depth_in (join ds es) ≡ max (depth_in ds) (depth_in es)
-depth_join none es = omega arith
-depth_join (more d ds) es = omega (arith, depth_join ds es)
-
-pub flat_join : (ds es : Data) → FlatIn (join ds es) → FlatIn ds × FlatIn es
-flat_join ds es flat = (omega (arith, depth_join ds es, flat), omega (arith, depth_join ds es, flat))
-
-pub flat_endings : (es fs : List Ending) → FlatEndings (es ++ fs) → FlatEndings es × FlatEndings fs
-flat_endings [] fs h = (tt, h)
-flat_endings (e ∷ es) fs h = let r = flat_endings es fs h.1 in ((h.0, r.0), r.1)
+pub either_follows : {A : Type 0} {n : ℕ} {d : A → ℕ} {K : A → Type 0} {r q s u : Result A Fault} (b : Bool) → (b ≡ true → Follows n d K r q) → (b ≡ false → Follows n d K s u) → Follows n d K (cond b r s) (cond b q u)
+either_follows true h k = h refl
+either_follows false h k = k refl
 
 -- a node with the limit follows one without it
-agree_within : (C : Type 0) (b : Bool) (t : Tree) → nat_lt 512 (depth t) ≡ b → Agrees (λ u. C × Flat u) (of_node (cond b (Err TooDeep) (Ok t))) (Ok t)
-agree_within C true t e = λ flat. let deep = ltb-true 512 (depth t) e in let here : depth t ≤ 512 = flat.1 in absurd (omega (arith, deep, here))
-agree_within C false t e = refl
+agree_within : (c : ℕ) (b : Bool) (t : Tree) → nat_lt 512 (depth t) ≡ b → Agrees (λ u. max c (depth u)) (of_node (cond b (Err TooDeep) (Ok t))) (Ok t)
+agree_within c true t e = let deep = ltb-true 512 (depth t) e in omega (arith, deep)
+agree_within c false t e = refl
 
-agree_right : (C : Type 0) (o : Option ℕ) (t : Tree) → Agrees (λ u. C × Flat u) (of_node (node_or o t)) (Ok t)
-agree_right C (Some field) t = tt
-agree_right C None t = agree_within C (nat_lt 512 (depth t)) t refl
+agree_typed : (c : ℕ) (o : Option ℕ) (t : Tree) → Agrees (λ u. max c (depth u)) (of_node (node_or o t)) (Ok t)
+agree_typed c (Some field) t = tt
+agree_typed c None t = agree_within c (nat_lt 512 (depth t)) t refl
 
-shallow_in : (k : Kind) (ds : Data) → Flat (branch k ds) → FlatIn ds
-shallow_in k ds flat = omega (arith, flat)
+-- as the last step, beside what is as deep as c, and as one with steps behind it
+pub node : {n : ℕ} {K : Tree → Type 0} (c : ℕ) (k : Kind) (ds : Data) → n ≤ max 512 (max c (depth (branch k ds))) → K (branch k ds) → Follows n (λ t. max c (depth t)) K (limited k ds) (unlimited k ds)
+node c k ds below fact = record { agrees = agree_typed c (first_wrong 0 (fields k) ds) (branch k ds); keeps = (below, fact) }
 
-pub node_follows : (C : Type 0) (k : Kind) (ds : Data) → Follows (C × FlatIn ds) (λ t. C × Flat t) (λ t. branch k ds ≡ t) (limited k ds) (unlimited k ds)
-node_follows C k ds = record { agrees = agree_right C (first_wrong 0 (fields k) ds) (branch k ds); unrefused = tt; back = λ h. (h.0, shallow_in k ds h.1); fact = refl }
+pub made : {n : ℕ} (k : Kind) (ds : Data) → Follows n (λ t. max n (depth t)) (λ t. (branch k ds ≡ t) × (depth (branch k ds) ≡ depth t)) (limited k ds) (unlimited k ds)
+made {n = n} k ds = node n k ds (omega arith) (refl, refl)

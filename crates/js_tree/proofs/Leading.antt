@@ -1,4 +1,4 @@
--- Why the steps of an accepted run lead from a script to nothing.
+-- What is left of an accepted run, step by step; and why its steps lead from a script to nothing.
 use Rattle.std.proofs.Common.{◌≡◌, ℕ, zero, suc, Bool, true, false, cond, length, List, [], ◌∷◌, ◌++◌, Option, Some, None, refl, sym, ap, ◌∙◌, subst, append-nil, append_assoc}
 use Rattle.js_grammar.proofs.Begins.{chosen_in}
 use Rattle.js_grammar.specs.Choice.{row_of}
@@ -11,7 +11,7 @@ use Rattle.js_grammar.specs.declared.symbols.Symbol.{Symbol}
 use Rattle.js_grammar.specs.declared.symbols.Symbol.TheVariants as symbols
 use Rattle.js_grammar.specs.declared.symbols.Terminal.{Terminal}
 use Rattle.js_machine.specs.Lookahead.{seen}
-use Rattle.js_machine.specs.Machine.{State, Stay, Halt, Outcome, Accepted, Stopped, Ends, start, act_on, go_on, run, finish, use_kind, use_row, use_token, kind_of, counts_as_there, want_all, under_mark, with_row, is_too_deep, may_follow, stuck}
+use Rattle.js_machine.specs.Machine.{State, Stay, Halt, Outcome, Accepted, Stopped, Ends, start, act_on, go_on, run, finish, use_kind, use_row, use_token, kind_of, counts_as_there, want_all, under_mark, with_row, with_token, is_too_deep, may_follow, stuck}
 use Rattle.js_machine.specs.declared.events.Event.{Event}
 use Rattle.js_machine.specs.declared.events.Event.TheVariants.{Row, Took, Inserted}
 use Rattle.js_machine.specs.declared.events.Frame.{Frame}
@@ -22,17 +22,95 @@ use Rattle.js_machine.specs.declared.lookahead.Lookahead.{Lookahead}
 use Rattle.js_machine.specs.declared.stops.Stop.{Stop}
 use Rattle.js_machine.specs.declared.stops.Stop.TheVariants.{Syntax, TooDeep}
 use Rattle.js_tokens.specs.declared.kinds.Token.{Token}
-use Rattle.js_tree.specs.Leads.{Leads, over, took, counts, expands, is_leaf}
+use Rattle.js_tree.specs.Leads.{Leads, over, took, counts, expands}
+
+abbrev pub push : Symbol → Class → ℕ → State → State
+push s first from st = record st { stack = Want s first from ∷ st.stack }
+
+-- from this state at these tokens the machine accepts by these steps
+pub data Goes : State → List Lookahead → List Event → Type 0 where
+  Ended : (st : State) → st.stack ≡ [] → Goes st [] []
+  Unmarked : (st : State) (t : Lookahead) (ts : List Lookahead) (es : List Event) → Goes st (t ∷ ts) es → Goes (record st { stack = EndMark ∷ st.stack }) (t ∷ ts) es
+  Expanded : (s : Symbol) (first : Class) (from : ℕ) (r : RowId) (st : State) (t : Lookahead) (ts : List Lookahead) (es : List Event) → row_of s t.class t.newline_before ≡ Some r → may_follow r first from st ≡ true
+      → Goes (with_row r t.class st) (t ∷ ts) es → Goes (push s first from st) (t ∷ ts) (Row r ∷ es)
+  Taken : (x : Terminal) (first : Class) (from : ℕ) (st : State) (t : Lookahead) (ts : List Lookahead) (es : List Event) → takes_class x t.class ≡ true
+      → Goes (with_token t.class from st) ts es → Goes (push (symbols.Take x) first from st) (t ∷ ts) (Took ∷ es)
+  Separated : (first : Class) (from : ℕ) (st : State) (t : Lookahead) (ts : List Lookahead) (es : List Event) → is_among t.class (classes.Semicolon ∷ []) ≡ true
+      → Goes (with_token t.class from st) ts es → Goes (push symbols.Semi first from st) (t ∷ ts) (Took ∷ es)
+  Counted : (first : Class) (from : ℕ) (st : State) (t : Lookahead) (ts : List Lookahead) (es : List Event)
+      → Goes (record st { events = st.events ++ Inserted ∷ [] }) (t ∷ ts) es → Goes (push symbols.Semi first from st) (t ∷ ts) (Inserted ∷ es)
+
+terminal_of : (s : Symbol) (x : Terminal) → kind_of s ≡ TakesToken x → symbols.Take x ≡ s
+terminal_of (symbols.Take t) x e = cc
+terminal_of _ x e = cc
+
+semicolon_of : (s : Symbol) → kind_of s ≡ Semicolon → symbols.Semi ≡ s
+semicolon_of symbols.Semi e = refl
+semicolon_of _ e = cc
+
+pub stopped_not : {A : Type 0} (p : Stop) (all : List Event) → Some (Stopped p) ≡ Some (Accepted all) → A
+stopped_not p all e = cc
+
+-- the steps of a run that are left are the last ones of all
+module _ (all : List Event) where
+  abbrev pub Rest : List Lookahead → State → Type 0
+  Rest ts st = (more : List Event) × (all ≡ st.events ++ more) × Goes st ts more
+
+  further : (events more : List Event) (e : Event) → all ≡ (events ++ e ∷ []) ++ more → all ≡ events ++ e ∷ more
+  further events more e same = same ∙ append_assoc events (e ∷ []) more
+
+  -- each step, where h goes on at the same token t and g at the next one
+  module _ (t : Lookahead) (ts : List Lookahead) (h g : State → Option Outcome) (here : (st : State) → h st ≡ Some (Accepted all) → Rest (t ∷ ts) st) (next : (st : State) → g st ≡ Some (Accepted all) → Rest ts st) where
+    row_taken : (deep follows : Bool) (r : RowId) (s : Symbol) (first : Class) (from : ℕ) (st : State) → may_follow r first from st ≡ follows → row_of s t.class t.newline_before ≡ Some r
+        → go_on (cond deep (Halt (TooDeep t.at)) (cond follows (Stay (with_row r t.class st)) (Halt (Syntax t.at)))) h g ≡ Some (Accepted all) → Rest (t ∷ ts) (push s first from st)
+    row_taken true follows r s first from st may is e = stopped_not (TooDeep t.at) all e
+    row_taken false true r s first from st may is e =
+        let rest = here _ e in (Row r ∷ rest.0, further st.events rest.0 (Row r) rest.1, Expanded s first from r st t ts rest.0 is may rest.2)
+    row_taken false false r s first from st may is e = stopped_not (Syntax t.at) all e
+
+    row_used : (o : Option RowId) (s : Symbol) (first : Class) (from : ℕ) (st : State) → row_of s t.class t.newline_before ≡ o → go_on (use_row o s first from t st) h g ≡ Some (Accepted all) → Rest (t ∷ ts) (push s first from st)
+    row_used None s first from st is e = stopped_not (stuck s st.before t) all e
+    row_used (Some r) s first from st is e = row_taken (is_too_deep r st.stack) (may_follow r first from st) r s first from st refl is e
+
+    token_used : (b : Bool) (x : Terminal) (first : Class) (from : ℕ) (st : State) → takes_class x t.class ≡ b → go_on (use_token b (symbols.Take x) from t st) h g ≡ Some (Accepted all) → Rest (t ∷ ts) (push (symbols.Take x) first from st)
+    token_used true x first from st takes e = let rest = next _ e in (Took ∷ rest.0, further st.events rest.0 Took rest.1, Taken x first from st t ts rest.0 takes rest.2)
+    token_used false x first from st takes e = stopped_not (stuck (symbols.Take x) st.before t) all e
+
+    semicolon_used : (a b : Bool) (first : Class) (from : ℕ) (st : State) → is_among t.class (classes.Semicolon ∷ []) ≡ a
+        → go_on (cond a (use_token true symbols.Semi from t st) (cond b (Stay (record st { events = st.events ++ Inserted ∷ [] })) (use_token false symbols.Semi from t st))) h g ≡ Some (Accepted all)
+        → Rest (t ∷ ts) (push symbols.Semi first from st)
+    semicolon_used true b first from st takes e = let rest = next _ e in (Took ∷ rest.0, further st.events rest.0 Took rest.1, Separated first from st t ts rest.0 takes rest.2)
+    semicolon_used false true first from st takes e = let rest = here _ e in (Inserted ∷ rest.0, further st.events rest.0 Inserted rest.1, Counted first from st t ts rest.0 rest.2)
+    semicolon_used false false first from st takes e = stopped_not (stuck symbols.Semi st.before t) all e
+
+    kind_used : (k : Kind) (s : Symbol) (first : Class) (from : ℕ) (st : State) → kind_of s ≡ k → go_on (use_kind k s first from t st) h g ≡ Some (Accepted all) → Rest (t ∷ ts) (push s first from st)
+    kind_used (TakesToken x) s first from st k e = (subst (λ s. go_on (use_token (takes_class x t.class) s from t st) h g ≡ Some (Accepted all) → Rest (t ∷ ts) (push s first from st)) (terminal_of s x k) (token_used (takes_class x t.class) x first from st refl)) e
+    kind_used Semicolon s first from st k e =
+        (subst (λ s. go_on (use_kind Semicolon s first from t st) h g ≡ Some (Accepted all) → Rest (t ∷ ts) (push s first from st)) (semicolon_of s k) (semicolon_used (is_among t.class (classes.Semicolon ∷ [])) (counts_as_there t) first from st refl)) e
+    kind_used Expands s first from st k e = row_used (row_of s t.class t.newline_before) s first from st refl e
+
+    stack_used : (fs : List Frame) (st : State) → go_on (act_on fs t st) h g ≡ Some (Accepted all) → Rest (t ∷ ts) (record st { stack = fs })
+    stack_used [] st e = stopped_not (Syntax t.at) all e
+    stack_used (EndMark ∷ fs) st e = let rest = here _ e in (rest.0, rest.1, Unmarked (record st { stack = fs }) t ts rest.0 rest.2)
+    stack_used (Want s first from ∷ fs) st e = kind_used (kind_of s) s first from (record st { stack = fs }) refl e
+
+  same_events : (events : List Event) → Some (Accepted events) ≡ Some (Accepted all) → all ≡ events
+  same_events events e = cc
+
+  finished : (at : ℕ) (fs : List Frame) (st : State) → Some (finish at fs st.events) ≡ Some (Accepted all) → Rest [] (record st { stack = fs })
+  finished at [] st e = ([], same_events st.events e ∙ sym (append-nil st.events), Ended _ refl)
+  finished at (f ∷ fs) st e = stopped_not (Syntax at) all e
+
+  pub goes : (n at : ℕ) (ts : List Lookahead) (st : State) → run n at ts st ≡ Some (Accepted all) → Rest ts st
+  goes n at [] st e = finished at st.stack st e
+  goes zero at (t ∷ ts) st e = cc
+  goes (suc n) at (t ∷ ts) st e = stack_used t ts (run n at (t ∷ ts)) (run n at ts) (goes n at (t ∷ ts)) (goes n at ts) st.stack st e
 
 -- the symbols on a stack
 abbrev wanted : List Frame → List Symbol
 wanted [] = []
 wanted (EndMark ∷ fs) = wanted fs
 wanted (Want s first from ∷ fs) = s ∷ wanted fs
-
--- from these symbols the steps behind the first ones lead to nothing
-abbrev Led : List Frame → List Event → List Event → Type 0
-Led fs events all = (more : List Event) × (all ≡ events ++ more) × Leads (wanted fs) more
 
 wanted_all : (first : Class) (from : ℕ) (ss : List Symbol) (fs : List Frame) → wanted (want_all first from ss ++ fs) ≡ ss ++ wanted fs
 wanted_all first from [] fs = refl
@@ -42,88 +120,15 @@ wanted_mark : (b : Bool) (fs : List Frame) → wanted (under_mark b fs) ≡ want
 wanted_mark true fs = refl
 wanted_mark false fs = refl
 
-leaf_of_terminal : (s : Symbol) (t : Terminal) → kind_of s ≡ TakesToken t → is_leaf s ≡ true
-leaf_of_terminal (symbols.Take t) u e = refl
-leaf_of_terminal symbols.Semi u e = refl
-leaf_of_terminal _ u e = cc
-
-leaf_of_semicolon : (s : Symbol) → kind_of s ≡ Semicolon → is_leaf s ≡ true
-leaf_of_semicolon symbols.Semi e = refl
-leaf_of_semicolon (symbols.Take t) e = refl
-leaf_of_semicolon _ e = cc
-
-by_token : (fs : List Frame) (s : Symbol) (first : Class) (from : ℕ) (events all : List Event) → is_leaf s ≡ true → Led fs (events ++ Took ∷ []) all → Led (Want s first from ∷ fs) events all
-by_token fs s first from events all leaf (more, same, d) = (Took ∷ more, same ∙ append_assoc events (Took ∷ []) more, took s (wanted fs) more leaf d)
-
-by_counting : (fs : List Frame) (s : Symbol) (first : Class) (from : ℕ) (events all : List Event) → is_leaf s ≡ true → Led fs (events ++ Inserted ∷ []) all → Led (Want s first from ∷ fs) events all
-by_counting fs s first from events all leaf (more, same, d) = (Inserted ∷ more, same ∙ append_assoc events (Inserted ∷ []) more, counts s (wanted fs) more leaf d)
-
-by_row : (r : RowId) (c : Class) (newline : Bool) (s : Symbol) (first : Class) (from : ℕ) (st : State) (all : List Event)
-    → row_of s c newline ≡ Some r → Led (with_row r c st).stack (st.events ++ Row r ∷ []) all → Led (Want s first from ∷ st.stack) st.events all
-by_row r c newline s first from st all e (more, same, d) =
-    let symbols_are = wanted_all c st.taken (row_symbols r) (under_mark (is_marked r) st.stack) ∙ ap (λ l. row_symbols r ++ l) (wanted_mark (is_marked r) st.stack)
-    in (Row r ∷ more, same ∙ append_assoc st.events (Row r ∷ []) more, expands s r (wanted st.stack) more (chosen_in s c newline (alternatives s) r e) (subst (λ ss. Leads ss more) symbols_are d))
-
-stopped_not : {A : Type 0} (p : Stop) (all : List Event) → Some (Stopped p) ≡ Some (Accepted all) → A
-stopped_not p all e = cc
-
--- what is known of the rest of a run
-abbrev Here : List Event → (State → Option Outcome) → Type 0
-Here all h = (st : State) → h st ≡ Some (Accepted all) → Led st.stack st.events all
-
-row_taken : (deep follows : Bool) (r : RowId) (newline : Bool) (s : Symbol) (first : Class) (from : ℕ) (t : Lookahead) (st : State) (all : List Event) (h g : State → Option Outcome)
-    → Here all h → row_of s t.class newline ≡ Some r
-    → go_on (cond deep (Halt (TooDeep t.at)) (cond follows (Stay (with_row r t.class st)) (Halt (Syntax t.at)))) h g ≡ Some (Accepted all) → Led (Want s first from ∷ st.stack) st.events all
-row_taken true follows r newline s first from t st all h g here is e = stopped_not (TooDeep t.at) all e
-row_taken false true r newline s first from t st all h g here is e = by_row r t.class newline s first from st all is (here _ e)
-row_taken false false r newline s first from t st all h g here is e = stopped_not (Syntax t.at) all e
-
-row_used : (o : Option RowId) (s : Symbol) (first : Class) (from : ℕ) (t : Lookahead) (st : State) (all : List Event) (h g : State → Option Outcome)
-    → Here all h → row_of s t.class t.newline_before ≡ o → go_on (use_row o s first from t st) h g ≡ Some (Accepted all) → Led (Want s first from ∷ st.stack) st.events all
-row_used None s first from t st all h g here is e = stopped_not (stuck s st.before t) all e
-row_used (Some r) s first from t st all h g here is e = row_taken (is_too_deep r st.stack) (may_follow r first from st) r t.newline_before s first from t st all h g here is e
-
-token_used : (b : Bool) (s : Symbol) (first : Class) (from : ℕ) (t : Lookahead) (st : State) (all : List Event) (h g : State → Option Outcome)
-    → Here all g → is_leaf s ≡ true → go_on (use_token b s from t st) h g ≡ Some (Accepted all) → Led (Want s first from ∷ st.stack) st.events all
-token_used true s first from t st all h g next leaf e = by_token st.stack s first from st.events all leaf (next _ e)
-token_used false s first from t st all h g next leaf e = stopped_not (stuck s st.before t) all e
-
-semicolon_used : (a b : Bool) (s : Symbol) (first : Class) (from : ℕ) (t : Lookahead) (st after : State) (all : List Event) (h g : State → Option Outcome)
-    → Here all h → Here all g → is_leaf s ≡ true → (Led after.stack after.events all → Led (Want s first from ∷ st.stack) st.events all)
-    → go_on (cond a (use_token true s from t st) (cond b (Stay after) (use_token false s from t st))) h g ≡ Some (Accepted all) → Led (Want s first from ∷ st.stack) st.events all
-semicolon_used true b s first from t st after all h g here next leaf counted e = by_token st.stack s first from st.events all leaf (next _ e)
-semicolon_used false true s first from t st after all h g here next leaf counted e = counted (here _ e)
-semicolon_used false false s first from t st after all h g here next leaf counted e = stopped_not (stuck s st.before t) all e
-
-kind_used : (k : Kind) (s : Symbol) (first : Class) (from : ℕ) (t : Lookahead) (st : State) (all : List Event) (h g : State → Option Outcome)
-    → Here all h → Here all g → kind_of s ≡ k → go_on (use_kind k s first from t st) h g ≡ Some (Accepted all) → Led (Want s first from ∷ st.stack) st.events all
-kind_used (TakesToken terminal) s first from t st all h g here next k e = token_used (takes_class terminal t.class) s first from t st all h g next (leaf_of_terminal s terminal k) e
-kind_used Semicolon s first from t st all h g here next k e =
-    semicolon_used (is_among t.class (classes.Semicolon ∷ [])) (counts_as_there t) s first from t st _ all h g here next (leaf_of_semicolon s k) (by_counting st.stack s first from st.events all (leaf_of_semicolon s k)) e
-kind_used Expands s first from t st all h g here next k e = row_used (row_of s t.class t.newline_before) s first from t st all h g here refl e
-
-stack_used : (fs : List Frame) (t : Lookahead) (st : State) (all : List Event) (h g : State → Option Outcome) → Here all h → Here all g → go_on (act_on fs t st) h g ≡ Some (Accepted all) → Led fs st.events all
-stack_used [] t st all h g here next e = stopped_not (Syntax t.at) all e
-stack_used (EndMark ∷ fs) t st all h g here next e = here _ e
-stack_used (Want s first from ∷ fs) t st all h g here next e = kind_used (kind_of s) s first from t _ all h g here next refl e
-
-same_events : {events all : List Event} → Some (Accepted events) ≡ Some (Accepted all) → all ≡ events
-same_events e = cc
-
-finished : (at : ℕ) (fs : List Frame) (events all : List Event) → Some (finish at fs events) ≡ Some (Accepted all) → Led fs events all
-finished at [] events all e = ([], same_events e ∙ sym (append-nil events), over)
-finished at (f ∷ fs) events all e = stopped_not (Syntax at) all e
-
-not_done : {A : Type 0} (all : List Event) → None ≡ Some (Accepted all) → A
-not_done all e = cc
-
-led : (n at : ℕ) (ts : List Lookahead) (st : State) (all : List Event) → run n at ts st ≡ Some (Accepted all) → Led st.stack st.events all
-led n at [] st all e = finished at st.stack st.events all e
-led zero at (t ∷ ts) st all e = not_done all e
-led (suc n) at (t ∷ ts) st all e = stack_used st.stack t st all (run n at (t ∷ ts)) (run n at ts) (λ st. led n at (t ∷ ts) st all) (λ st. led n at ts st all) e
-
-from_start : (all : List Event) → Led (Want symbols.Script classes.End 0 ∷ []) [] all → Leads (symbols.Script ∷ []) all
-from_start all (more, same, d) = subst (Leads (symbols.Script ∷ [])) (sym same) d
+led : (st : State) (ts : List Lookahead) (es : List Event) → Goes st ts es → Leads (wanted st.stack) es
+led _ _ _ (Ended st e) = subst (λ fs. Leads (wanted fs) []) (sym e) over
+led _ _ _ (Unmarked st t ts es d) = led st (t ∷ ts) es d
+led _ _ _ (Expanded s first from r st t ts es is may d) =
+    let symbols_are = wanted_all t.class st.taken (row_symbols r) (under_mark (is_marked r) st.stack) ∙ ap (λ l. row_symbols r ++ l) (wanted_mark (is_marked r) st.stack)
+    in expands s r (wanted st.stack) es (chosen_in s t.class t.newline_before (alternatives s) r is) (subst (λ ss. Leads ss es) symbols_are (led (with_row r t.class st) (t ∷ ts) es d))
+led _ _ _ (Taken x first from st t ts es takes d) = took (symbols.Take x) (wanted st.stack) es refl (led (with_token t.class from st) ts es d)
+led _ _ _ (Separated first from st t ts es takes d) = took symbols.Semi (wanted st.stack) es refl (led (with_token t.class from st) ts es d)
+led _ _ _ (Counted first from st t ts es d) = counts symbols.Semi (wanted st.stack) es refl (led (record st { events = st.events ++ Inserted ∷ [] }) (t ∷ ts) es d)
 
 pub accepted_leads : (text : List ℕ) (ts : List Token) (all : List Event) → Ends text ts (Accepted all) → Leads (symbols.Script ∷ []) all
-accepted_leads text ts all ends = from_start all (led ends.0 (length text) (seen text ts) start all ends.1)
+accepted_leads text ts all ends = let rest = goes all ends.0 (length text) (seen text ts) start ends.1 in subst (Leads (symbols.Script ∷ [])) (sym rest.1) (led start (seen text ts) rest.0 rest.2)

@@ -5,10 +5,8 @@ pub mod Closing
 pub mod EachRow
 pub mod Filling
 pub mod Finishing
-pub mod FollowAll
 pub mod FollowFinishes
 pub mod FollowImage
-pub mod FollowRows
 pub mod FollowSteps
 pub mod Folding
 pub mod Following

@@ -72,28 +72,15 @@ leads false b = true
 
 mark_set : (e : EnumId) (m : Mark) (h : Bool) → leads (is_operator e (class_of_mark m h)) (in_set e (choice_of_text e (mark_text m))) ≡ true
 unfolding mark_text
-mark_set sets.UnaryOperator marks.OpenParen true = refl
-mark_set sets.UnaryOperator marks.OpenParen false = refl
-mark_set sets.UpdateOperator marks.OpenParen true = refl
-mark_set sets.UpdateOperator marks.OpenParen false = refl
-mark_set sets.BinaryOperator marks.OpenParen true = refl
-mark_set sets.BinaryOperator marks.OpenParen false = refl
-mark_set sets.CompoundOperator marks.OpenParen true = refl
-mark_set sets.CompoundOperator marks.OpenParen false = refl
 mark_set sets.DeclaredKind m h = refl
-mark_set sets.LexicalKind m h = refl
-mark_set sets.ForKind m h = refl
+mark_set _ marks.OpenParen true = refl
+mark_set _ marks.OpenParen false = refl
 mark_set _ _ h = refl
 
 word_set : (e : EnumId) (w : Word) → leads (is_operator e (class_of_word w)) (in_set e (choice_of_text e (word_text w))) ≡ true
 unfolding word_text
 word_set sets.DeclaredKind w = refl
-word_set sets.LexicalKind w = refl
-word_set sets.ForKind w = refl
-word_set sets.UnaryOperator words.Break = refl
-word_set sets.UpdateOperator words.Break = refl
-word_set sets.BinaryOperator words.Break = refl
-word_set sets.CompoundOperator words.Break = refl
+word_set _ words.Break = refl
 word_set _ _ = refl
 
 no_set : (e : EnumId) → list_all (λ c. not (is_operator e c)) (classes.Number ∷ classes.End ∷ name_classes) ≡ true

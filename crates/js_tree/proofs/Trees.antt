@@ -1,5 +1,5 @@
 -- What the machine accepts has a tree of a script, where an arrow comes behind each head.
-use Rattle.std.proofs.Common.{◌≡◌, ℕ, zero, suc, ◌+◌, Bool, true, false, cond, ◌&&◌, inl, inr, List, [], ◌∷◌, ◌++◌, reverse, Some, None, Ok, Err, refl, sym, ap, ◌∙◌, subst, arith}
+use Rattle.std.proofs.Common.{◌≡◌, ℕ, zero, suc, ◌+◌, Bool, true, false, cond, ◌&&◌, inl, inr, List, [], ◌∷◌, ◌++◌, reverse, Some, None, Ok, Err, refl, sym, subst, arith}
 use Rattle.js_grammar.specs.declared.class.Class.{Class}
 use Rattle.js_grammar.specs.declared.class.Class.TheVariants as classes
 use Rattle.js_grammar.specs.declared.symbols.Terminal.TheVariants as terminals
@@ -40,7 +40,8 @@ use Rattle.js_tree.specs.Image.{root, tree_of}
 use Rattle.js_tree.specs.Nodes.{unlimited, limited, of_node}
 use Rattle.js_tree.proofs.Sorts.{Is, PartIs}
 use Rattle.js_tree.proofs.Table.{one_node}
-use Rattle.js_tree.proofs.Accepted.{LeavesAre, Closes, Sound, Builds, builds, stopped_not, not_next, Agree}
+use Rattle.js_tree.proofs.Accepted.{LeavesAre, Closes, Sound, builds, not_next, Agree}
+use Rattle.js_tree.proofs.Leading.{stopped_not, goes}
 
 -- the one node that is left
 root_of_part : (m : Maker) (p : Part) → PartIs m (one_node (unions.One kinds.Script)) p → Safely (Is (unions.One kinds.Script)) (root (p ∷ []))
@@ -55,9 +56,9 @@ root_of m c [] is = absurd is
 root_of m c (p ∷ ps) (is, inl (v, e)) = subst (λ qs. Safely (Is (unions.One kinds.Script)) (root (p ∷ qs))) (sym e) (root_of_part m p is)
 root_of m c (p ∷ ps) (is, inr (x, starts, e)) = subst (λ qs. Safely (Is (unions.One kinds.Script)) (root (p ∷ qs))) (sym e) (root_of_part m p is)
 
-sound_begun : (c d : Class) → c ≡ d → Sound d (with_row rows.Script c (record start { stack = [] })).stack (with_row rows.Script c (record start { stack = [] }))
-sound_begun c d e = record {
-  chain = (omega arith, λ k. e, (omega arith, λ k. refl, tt));
+sound_begun : (c : Class) → Sound c (with_row rows.Script c (record start { stack = [] })).stack (with_row rows.Script c (record start { stack = [] }))
+sound_begun c = record {
+  chain = (omega arith, λ k. refl, (omega arith, λ k. refl, tt));
   linked = (λ k. cc, (λ k. cc, tt));
   late = tt;
   closed = λ k. cc;
@@ -101,10 +102,10 @@ pub accepted_tree : (m : Maker) → IsMaker m → (K : List Frame → List Looka
 accepted_tree m maker K closes n over [] ls all leaves k e = stopped_not (Syntax over) all e
 accepted_tree m maker K closes zero over (t ∷ ts) ls all leaves k e = cc
 accepted_tree m maker K closes (suc n) over (t ∷ ts) ls all leaves k e =
-    let rest : Builds m (with_row rows.Script t.class (record start { stack = [] })).stack (with_row rows.Script t.class (record start { stack = [] })) (t ∷ ts) ls all =
-    builds m maker K closes all n over (t ∷ ts) ls (with_row rows.Script t.class (record start { stack = [] })) leaves (λ c u us same is. let now : t.class ≡ c = let first : t ≡ u = cc in ap (λ t. t.class) first ∙ sym is in sound_begun t.class c now)
-    (closes.row symbols.Script classes.End 0 0 [] t ts rows.Script false refl (λ e. cc) k) e in
-    subst (λ all. Safely (Is (unions.One kinds.Script)) (tree_of m ls all)) (sym rest.1) (tree_made m maker t.class t.newline_before ls rest.0 (rest.2 Anything tt (agree_begun t.class) []))
+    let st = with_row rows.Script t.class (record start { stack = [] }) in
+    let rest = goes all n over (t ∷ ts) st e in
+    let built = builds m maker K closes st (t ∷ ts) rest.0 rest.2 ls leaves (sound_begun t.class) (closes.row symbols.Script classes.End 0 0 [] t ts rows.Script false refl (λ e. cc) k) in
+    subst (λ all. Safely (Is (unions.One kinds.Script)) (tree_of m ls all)) (sym rest.1) (tree_made m maker t.class t.newline_before ls rest.0 (built Anything tt (agree_begun t.class) []))
 
 -- both makers make the node of each kind whose fields fit
 pub unlimited_makes : IsMaker unlimited
