@@ -28,6 +28,7 @@ use Rattle.js_tree.specs.Nodes.{Maker}
 use Rattle.js_tree.specs.Results.{◌>>=◌}
 use Rattle.js_tree.specs.declared.leaf.Leaf.{Leaf}
 use Rattle.js_tree.specs.declared.parts.Part.{Part}
+use Rattle.js_tree.specs.declared.parts.Part.TheVariants as parts
 use Rattle.js_tree.proofs.Sorts.{IsMaker, Safely, LeafIs, leads}
 use Rattle.js_tree.proofs.Roles.{leads_true}
 use Rattle.js_tree.proofs.Shapes.{and_left, and_right, either, three}
@@ -35,7 +36,7 @@ use Rattle.js_tree.proofs.Safe.{safely_bind, among_one}
 use Rattle.js_tree.proofs.Suits.{Left, NameAt, HeadAt, is_name, is_head, after, after_by, StandsAt, NameStandsAt, Suits, Chain, is_late, OpenAt, Open, passes_head, is_ready, in_chain, is_new, Linked}
 use Rattle.js_tree.proofs.Apart.{open_under, all_open, from_after}
 use Rattle.js_tree.proofs.Rowwise.{class_ok, OnArrow, Followed, Here}
-use Rattle.js_tree.proofs.Leading.{push, Goes, Ended, Unmarked, Expanded, Taken, Separated, Counted}
+use Rattle.js_tree.proofs.Leading.{Goes, Ended, Unmarked, Expanded, Taken, Separated, Counted}
 use Rattle.js_tree.proofs.EachRow.{row_goal, row_linked, row_guarded, row_ok, ok_at}
 
 -- what the tokens that are left tell
@@ -61,11 +62,14 @@ Agree taken before k o [] = Unit {0}
 Agree taken before k o (EndMark ∷ fs) = Agree taken before k o fs
 Agree taken before k o (Want s first from ∷ fs) = (OneName taken first from → o ≡ NameAt from) × (OneHead before k first from → o ≡ HeadAt from) × Agree taken before k o fs
 
-pub record Sound (c : Class) (fs : List Frame) (st : State) : Type 0 where
-  pub chain : Chain c st.taken fs
+pub record Facts (c : Class) (fs : List Frame) (taken : ℕ) (before : Option Class) (k : ℕ) : Type 0 where
+  pub chain : Chain c taken fs
   pub linked : Linked fs
-  pub late : Open st.taken fs
-  pub closed : is_behind (classes.CloseParen ∷ []) st.before ≡ true → st.row_from < st.taken
+  pub late : Open taken fs
+  pub closed : is_behind (classes.CloseParen ∷ []) before ≡ true → k < taken
+
+abbrev pub Sound : Class → List Frame → State → Type 0
+Sound c fs st = Facts c fs st.taken st.before st.row_from
 
 abbrev pub is_function : Symbol → Bool
 is_function symbols.Function = true
@@ -249,29 +253,21 @@ agree_token x first from c n (Want s f k ∷ fs) least same takes (below, here, 
 rev_one : (l : Leaf) (ls back : List Leaf) → reverse (l ∷ ls) ++ back ≡ reverse ls ++ (l ∷ back)
 rev_one l ls back = ap (λ x. x ++ back) (reverse-append (l ∷ []) ls) ∙ append_assoc (reverse ls) (l ∷ []) back
 
-token_made : (m : Maker) (x : Terminal) (first : Class) (from : ℕ) (t : Lookahead) (ts : List Lookahead) (l : Leaf) (ls : List Leaf) (st : State) (more : List Event)
-    → takes_class x t.class ≡ true → LeafIs t.class l → Sound t.class (Want (symbols.Take x) first from ∷ st.stack) st → ArrowNext (after x first from) ts
-    → Made m st.stack (with_token t.class from st) ts ls more → Made m (Want (symbols.Take x) first from ∷ st.stack) st (t ∷ ts) (l ∷ ls) (Took ∷ more)
-token_made m x first from t ts l ls st more takes leaf sound next made = λ o arrow agree back.
-    subst (λ a. Safely (λ y. (y.0 ≡ back) × Suits m (Want (symbols.Take x) first from ∷ st.stack) o y.1) (image m a more >>= event_part m Took)) (sym (rev_one l ls back))
-    (safely_bind (λ y. (y.0 ≡ l ∷ back) × Suits m st.stack (after x first from) y.1) (λ y. (y.0 ≡ back) × Suits m (Want (symbols.Take x) first from ∷ st.stack) o y.1) (image m (reverse ls ++ (l ∷ back)) more) (event_part m Took)
+-- a token or a semicolon that is taken
+leaf_made : (m : Maker) (s : Symbol) (x : Terminal) (first : Class) (from : ℕ) (t : Lookahead) (ts : List Lookahead) (l : Leaf) (ls : List Leaf) (st : State) (more : List Event)
+    → takes_class x t.class ≡ true → Sound t.class (Want s first from ∷ st.stack) st → ArrowNext (after x first from) ts
+    → ((o : Left) (ps : List Part) → Suits m st.stack (after x first from) ps → Suits m (Want s first from ∷ st.stack) o (parts.Token l ∷ ps))
+    → Made m st.stack (with_token t.class from st) ts ls more → Made m (Want s first from ∷ st.stack) st (t ∷ ts) (l ∷ ls) (Took ∷ more)
+leaf_made m s x first from t ts l ls st more takes sound next put made = λ o arrow agree back.
+    subst (λ a. Safely (λ y. (y.0 ≡ back) × Suits m (Want s first from ∷ st.stack) o y.1) (image m a more >>= event_part m Took)) (sym (rev_one l ls back))
+    (safely_bind (λ y. (y.0 ≡ l ∷ back) × Suits m st.stack (after x first from) y.1) (λ y. (y.0 ≡ back) × Suits m (Want s first from ∷ st.stack) o y.1) (image m (reverse ls ++ (l ∷ back)) more) (event_part m Took)
     (made (after x first from) next (agree_token x first from t.class st.taken st.stack sound.chain.0 sound.chain.1 takes sound.chain.2) (l ∷ back))
-    (λ y is. subst (λ a. Safely (λ y. (y.0 ≡ back) × Suits m (Want (symbols.Take x) first from ∷ st.stack) o y.1) (leaf_part a y.1)) (sym is.0) (refl, ((t.class, takes, leaf), is.1))))
+    (λ y is. subst (λ a. Safely (λ y. (y.0 ≡ back) × Suits m (Want s first from ∷ st.stack) o y.1) (leaf_part a y.1)) (sym is.0) (refl, put o y.1 is.1)))
 
 arrow_free : (a : Bool) (n : ℕ) (ts : List Lookahead) → ArrowNext (after_by a false n) ts
 arrow_free a n [] = tt
 arrow_free true n (t ∷ ts) = tt
 arrow_free false n (t ∷ ts) = tt
-
-semicolon_made : (m : Maker) (first : Class) (from : ℕ) (t : Lookahead) (ts : List Lookahead) (l : Leaf) (ls : List Leaf) (st : State) (more : List Event)
-    → is_among t.class (classes.Semicolon ∷ []) ≡ true → Sound t.class (Want symbols.Semi first from ∷ st.stack) st
-    → Made m st.stack (with_token t.class from st) ts ls more → Made m (Want symbols.Semi first from ∷ st.stack) st (t ∷ ts) (l ∷ ls) (Took ∷ more)
-semicolon_made m first from t ts l ls st more takes sound made = λ o arrow agree back.
-    let left = after (terminals.One classes.Semicolon) first from in
-    subst (λ a. Safely (λ y. (y.0 ≡ back) × Suits m (Want symbols.Semi first from ∷ st.stack) o y.1) (image m a more >>= event_part m Took)) (sym (rev_one l ls back))
-    (safely_bind (λ y. (y.0 ≡ l ∷ back) × Suits m st.stack left y.1) (λ y. (y.0 ≡ back) × Suits m (Want symbols.Semi first from ∷ st.stack) o y.1) (image m (reverse ls ++ (l ∷ back)) more) (event_part m Took)
-    (made left (arrow_free (takes_class (terminals.One classes.Semicolon) first && is_name first) from ts) (agree_token (terminals.One classes.Semicolon) first from t.class st.taken st.stack sound.chain.0 sound.chain.1 takes sound.chain.2) (l ∷ back))
-    (λ y is. subst (λ a. Safely (λ y. (y.0 ≡ back) × Suits m (Want symbols.Semi first from ∷ st.stack) o y.1) (leaf_part a y.1)) (sym is.0) (refl, (tt, inr (left, from_after (terminals.One classes.Semicolon) first from, is.1)))))
 
 inserted_made : (m : Maker) (first : Class) (from : ℕ) (ts : List Lookahead) (ls : List Leaf) (fs : List Frame) (st after : State) (more : List Event) → after.taken ≡ st.taken → after.before ≡ st.before → after.row_from ≡ st.row_from
     → Made m fs st ts ls more → Made m (Want symbols.Semi first from ∷ fs) st ts ls (Inserted ∷ more)
@@ -297,9 +293,6 @@ sound_next s first from c d st sound =
       late = all_open c st.taken (suc st.taken) st.stack chain (omega arith);
       closed = λ e. omega (arith, sound.chain.0);
     }
-
-same_sound : (s : Symbol) (first : Class) (from : ℕ) (c : Class) (st : State) → Sound c (push s first from st).stack (push s first from st) → Sound c (Want s first from ∷ st.stack) st
-same_sound s first from c st sound = record { chain = sound.chain; linked = sound.linked; late = sound.late; closed = sound.closed }
 
 -- the facts of the stack, where a token is left
 abbrev pub SoundAt : List Lookahead → State → Type 0
@@ -340,22 +333,18 @@ builds m maker K closes _ _ _ (Unmarked st t ts es d) ls leaves sound k =
     builds m maker K closes st (t ∷ ts) es d ls leaves (record { chain = sound.chain; linked = sound.linked; late = sound.late; closed = sound.closed }) (closes.mark st.stack (t ∷ ts) k)
 builds m maker K closes _ _ _ (Expanded s first from r st t ts es is may d) ls leaves sound k =
     let ok = ok_at s t.class t.newline_before r is (λ n. first_taken (with_row r t.class st) (t ∷ ts) es d (terminals.One classes.New) t.class st.taken _ (sym (ap (λ r. (with_row r t.class st).stack) (new_row s t.class t.newline_before r n is)))) in
-    let f = row_facts s first from t.class t.newline_before r st ok (same_sound s first from t.class st sound) in
-    let facts : Sound t.class (with_row r t.class st).stack (with_row r t.class st) = record { chain = f.chain; linked = f.linked; late = f.late; closed = f.closed } in
     let above = closes.row s first from st.taken st.stack t ts r (is_marked r) is (λ n. first_taken (with_row r t.class st) (t ∷ ts) es d (terminals.One classes.Function) t.class st.taken _ (sym (ap (λ r. (with_row r t.class st).stack) (function_row s t.class t.newline_before r n is)))) k in
-    row_made m maker s first from t ts ls r st es is ok may (same_sound s first from t.class st sound) (builds m maker K closes (with_row r t.class st) (t ∷ ts) es d ls leaves facts above)
+    row_made m maker s first from t ts ls r st es is ok may sound (builds m maker K closes (with_row r t.class st) (t ∷ ts) es d ls leaves (row_facts s first from t.class t.newline_before r st ok sound) above)
 builds m maker K closes _ _ _ (Taken x first from st t ts es takes d) [] leaves sound k = absurd leaves
 builds m maker K closes _ _ _ (Taken x first from st t ts es takes d) (l ∷ ls) leaves sound k =
-    let facts = same_sound (symbols.Take x) first from t.class st sound in
-    token_made m x first from t ts l ls st es takes leaves.0 facts (closes.arrow x first from st.stack t ts takes k)
-    (builds m maker K closes (with_token t.class from st) ts es d ls leaves.1 (sound_at ts (with_token t.class from st) (λ c. sound_next (symbols.Take x) first from t.class c st facts)) (closes.token x first from st.stack t ts takes k))
+    leaf_made m (symbols.Take x) x first from t ts l ls st es takes sound (closes.arrow x first from st.stack t ts takes k) (λ o ps is. ((t.class, takes, leaves.0), is))
+    (builds m maker K closes (with_token t.class from st) ts es d ls leaves.1 (sound_at ts (with_token t.class from st) (λ c. sound_next (symbols.Take x) first from t.class c st sound)) (closes.token x first from st.stack t ts takes k))
 builds m maker K closes _ _ _ (Separated first from st t ts es takes d) [] leaves sound k = absurd leaves
 builds m maker K closes _ _ _ (Separated first from st t ts es takes d) (l ∷ ls) leaves sound k =
-    let facts = same_sound symbols.Semi first from t.class st sound in
-    semicolon_made m first from t ts l ls st es takes facts
-    (builds m maker K closes (with_token t.class from st) ts es d ls leaves.1 (sound_at ts (with_token t.class from st) (λ c. sound_next symbols.Semi first from t.class c st facts)) (closes.semicolon first from st.stack t ts takes k))
+    let semicolon = terminals.One classes.Semicolon in
+    leaf_made m symbols.Semi semicolon first from t ts l ls st es takes sound (arrow_free (takes_class semicolon first && is_name first) from ts) (λ o ps is. (tt, inr (after semicolon first from, from_after semicolon first from, is)))
+    (builds m maker K closes (with_token t.class from st) ts es d ls leaves.1 (sound_at ts (with_token t.class from st) (λ c. sound_next symbols.Semi first from t.class c st sound)) (closes.semicolon first from st.stack t ts takes k))
 builds m maker K closes _ _ _ (Counted first from st t ts es d) ls leaves sound k =
     let after : State = record st { events = st.events ++ Inserted ∷ [] } in
-    let f = sound_pop symbols.Semi first from t.class st.stack st refl (same_sound symbols.Semi first from t.class st sound) in
     inserted_made m first from (t ∷ ts) ls st.stack st after es refl refl refl
-    (builds m maker K closes after (t ∷ ts) es d ls leaves (record { chain = f.chain; linked = f.linked; late = f.late; closed = f.closed }) (closes.inserted first from st.stack (t ∷ ts) k))
+    (builds m maker K closes after (t ∷ ts) es d ls leaves (sound_pop symbols.Semi first from t.class st.stack st refl sound) (closes.inserted first from st.stack (t ∷ ts) k))

@@ -105,53 +105,33 @@ Heads fresh pending d [] ts = Unit {0}
 Heads fresh pending d (EndMark ∷ fs) ts = Heads fresh pending d fs ts
 Heads fresh pending d (Want s first from ∷ fs) ts = HeadsAt (role_of_symbol s) first fresh pending d ts (λ f p d. Heads f p d fs ts)
 
-no_opening : (A : Type 0) (r : Role) (b : Bool) → is_opening r ≡ false → (is_opening r && b) ≡ true → A
-no_opening A Opens b e f = cc
-no_opening A _ b e f = cc
+-- behind a token, below the row that takes it: a `)` that was met behind it after d more is met after e more now
+module _ (t : Lookahead) (ts : List Lookahead) (R : ℕ → ℕ → Type 0) (up : (d e : ℕ) → R d e → R (suc d) (suc e)) (same : (d e : ℕ) → R d e → behind d (t ∷ ts) ≡ behind e ts) where
+  passed_at : (r : Role) (first : Class) (p : Bool) (d e : ℕ) (K L : Bool → Bool → ℕ → Type 0) → R d e → ((p : Bool) (d e : ℕ) → R d e → K false p d → L false p e) → HeadsAt r first false p d (t ∷ ts) K → HeadsAt r first false p e ts L
+  passed_at Opens first false d e K L fit next is = next true d e fit is
+  passed_at Opens first true d e K L fit next is = is
+  passed_at Closing first true d e K L fit next (h, k) = (h, next false d e fit k)
+  passed_at Closing first false d e K L fit next (h, k) = (λ head. sym (same d e fit) ∙ h head, next false (suc d) (suc e) (up d e fit) k)
+  passed_at Arrow first p d e K L fit next is = next p d e fit is
+  passed_at Other first p d e K L fit next is = next p d e fit is
 
--- behind a token that is no parenthesis
-other_at : (r : Role) (first : Class) (f p : Bool) (d : ℕ) (t : Lookahead) (ts : List Lookahead) (K L : Bool → Bool → ℕ → Type 0) → role_of_class t.class ≡ Other → ((f p : Bool) (d : ℕ) → K f p d → L f p d) → HeadsAt r first f p d (t ∷ ts) K → HeadsAt r first f p d ts L
-other_at Opens first f false d t ts K L e next is = next f true d is
-other_at Opens first f true d t ts K L e next is = is
-other_at Closing first true true d t ts K L e next (h, k) = (λ head. no_opening _ (role_of_class t.class) (behind 0 ts) (ap is_opening e) (h head), next false false d k)
-other_at Closing first false true d t ts K L e next (h, k) = (h, next false false d k)
-other_at Closing first true false d t ts K L e next (h, k) = (λ head. ap (λ r. at_role r d (arrow_at ts) (λ e. behind e ts)) (sym e) ∙ h head, next false false (suc d) k)
-other_at Closing first false false d t ts K L e next (h, k) = (λ head. ap (λ r. at_role r d (arrow_at ts) (λ e. behind e ts)) (sym e) ∙ h head, next false false (suc d) k)
-other_at Arrow first f p d t ts K L e next is = next (f && p) p d is
-other_at Other first f p d t ts K L e next is = next (f && p) p d is
+  passed : (fs : List Frame) (p : Bool) (d e : ℕ) → R d e → Heads false p d fs (t ∷ ts) → Heads false p e fs ts
+  passed [] p d e fit is = tt
+  passed (EndMark ∷ fs) p d e fit is = passed fs p d e fit is
+  passed (Want s first from ∷ fs) p d e fit is = passed_at (role_of_symbol s) first p d e _ _ fit (λ p d e. passed fs p d e) is
 
-other_taken : (fs : List Frame) (f p : Bool) (d : ℕ) (t : Lookahead) (ts : List Lookahead) → role_of_class t.class ≡ Other → Heads f p d fs (t ∷ ts) → Heads f p d fs ts
-other_taken [] f p d t ts e is = tt
-other_taken (EndMark ∷ fs) f p d t ts e is = other_taken fs f p d t ts e is
-other_taken (Want s first from ∷ fs) f p d t ts e is = other_at (role_of_symbol s) first f p d t ts _ _ e (λ f p d. other_taken fs f p d t ts e) is
+seen_as : (r : Role) (d : ℕ) (t : Lookahead) (ts : List Lookahead) → role_of_class t.class ≡ r → behind d (t ∷ ts) ≡ at_role r d (arrow_at ts) (λ e. behind e ts)
+seen_as r d t ts e = ap (λ r. at_role r d (arrow_at ts) (λ e. behind e ts)) e
 
--- behind a `(`, below the row that takes it
-opened_at : (r : Role) (first : Class) (p : Bool) (d : ℕ) (t : Lookahead) (ts : List Lookahead) (K L : Bool → Bool → ℕ → Type 0) → role_of_class t.class ≡ Opens → ((p : Bool) (d : ℕ) → K false p d → L false p (suc d)) → HeadsAt r first false p d (t ∷ ts) K → HeadsAt r first false p (suc d) ts L
-opened_at Opens first false d t ts K L e next is = next true d is
-opened_at Opens first true d t ts K L e next is = is
-opened_at Closing first true d t ts K L e next (h, k) = (h, next false d k)
-opened_at Closing first false d t ts K L e next (h, k) = (λ head. ap (λ r. at_role r d (arrow_at ts) (λ e. behind e ts)) (sym e) ∙ h head, next false (suc d) k)
-opened_at Arrow first p d t ts K L e next is = next p d is
-opened_at Other first p d t ts K L e next is = next p d is
+other_taken : (fs : List Frame) (t : Lookahead) (ts : List Lookahead) → role_of_class t.class ≡ Other → Heads false false 0 fs (t ∷ ts) → Heads false false 0 fs ts
+other_taken fs t ts is = passed t ts (λ d e. d ≡ e) (λ d e. ap suc) (λ d e fit. seen_as Other d t ts is ∙ ap (λ d. behind d ts) fit) fs false 0 0 refl
 
-opened : (fs : List Frame) (p : Bool) (d : ℕ) (t : Lookahead) (ts : List Lookahead) → role_of_class t.class ≡ Opens → Heads false p d fs (t ∷ ts) → Heads false p (suc d) fs ts
-opened [] p d t ts e is = tt
-opened (EndMark ∷ fs) p d t ts e is = opened fs p d t ts e is
-opened (Want s first from ∷ fs) p d t ts e is = opened_at (role_of_symbol s) first p d t ts _ _ e (λ p d. opened fs p d t ts e) is
+opened : (fs : List Frame) (t : Lookahead) (ts : List Lookahead) → role_of_class t.class ≡ Opens → Heads false false 0 fs (t ∷ ts) → Heads false false 1 fs ts
+opened fs t ts is = passed t ts (λ d e. suc d ≡ e) (λ d e. ap suc) (λ d e fit. seen_as Opens d t ts is ∙ ap (λ d. behind d ts) fit) fs false 0 1 refl
 
--- behind a `)`
-closed_at : (r : Role) (first : Class) (p : Bool) (d : ℕ) (t : Lookahead) (ts : List Lookahead) (K L : Bool → Bool → ℕ → Type 0) → role_of_class t.class ≡ Closing → ((p : Bool) (d : ℕ) → K false p (suc d) → L false p d) → HeadsAt r first false p (suc d) (t ∷ ts) K → HeadsAt r first false p d ts L
-closed_at Opens first false d t ts K L e next is = next true d is
-closed_at Opens first true d t ts K L e next is = is
-closed_at Closing first true d t ts K L e next (h, k) = (h, next false d k)
-closed_at Closing first false d t ts K L e next (h, k) = (λ head. ap (λ r. at_role r (suc d) (arrow_at ts) (λ e. behind e ts)) (sym e) ∙ h head, next false (suc d) k)
-closed_at Arrow first p d t ts K L e next is = next p d is
-closed_at Other first p d t ts K L e next is = next p d is
-
-closed : (fs : List Frame) (p : Bool) (d : ℕ) (t : Lookahead) (ts : List Lookahead) → role_of_class t.class ≡ Closing → Heads false p (suc d) fs (t ∷ ts) → Heads false p d fs ts
-closed [] p d t ts e is = tt
-closed (EndMark ∷ fs) p d t ts e is = closed fs p d t ts e is
-closed (Want s first from ∷ fs) p d t ts e is = closed_at (role_of_symbol s) first p d t ts _ _ e (λ p d. closed fs p d t ts e) is
+closed : (fs : List Frame) (t : Lookahead) (ts : List Lookahead) → role_of_class t.class ≡ Closing → Heads false false 1 fs (t ∷ ts) → Heads false false 0 fs ts
+closed fs t ts is =
+    passed t ts (λ d e. suc e ≡ d) (λ d e. ap suc) (λ d e fit. subst (λ d. behind d (t ∷ ts) ≡ behind e ts) fit (seen_as Closing (suc e) t ts is)) fs false 1 0 refl
 
 -- behind the `(` of the row on top
 begun_at : (r : Role) (first : Class) (f : Bool) (t : Lookahead) (ts : List Lookahead) (K L : Bool → Bool → ℕ → Type 0) → role_of_class t.class ≡ Opens → ((f : Bool) → K true true 0 → L f false 0) → (K false false 0 → L false false 1) → HeadsAt r first true true 0 (t ∷ ts) K → HeadsAt r first f false 0 ts L
@@ -166,7 +146,7 @@ begun_at Other first false t ts K L e next below is = next false is
 begun : (fs : List Frame) (f : Bool) (t : Lookahead) (ts : List Lookahead) → role_of_class t.class ≡ Opens → Heads true true 0 fs (t ∷ ts) → Heads f false 0 fs ts
 begun [] f t ts e is = tt
 begun (EndMark ∷ fs) f t ts e is = begun fs f t ts e is
-begun (Want s first from ∷ fs) f t ts e is = begun_at (role_of_symbol s) first f t ts _ _ e (λ f. begun fs f t ts e) (opened fs false 0 t ts e) is
+begun (Want s first from ∷ fs) f t ts e is = begun_at (role_of_symbol s) first f t ts _ _ e (λ f. begun fs f t ts e) (opened fs t ts e) is
 
 -- what waits below waits on top
 fresh_at : (r : Role) (first : Class) (p : Bool) (d : ℕ) (ts : List Lookahead) (K : Bool → Bool → ℕ → Type 0) → ((p : Bool) (d : ℕ) → K false p d → K true p d) → HeadsAt r first false p d ts K → HeadsAt r first true p d ts K
@@ -276,9 +256,9 @@ no_arrow _ e = cc
 
 token_next : (r : Role) (first : Class) (t : Lookahead) (ts : List Lookahead) (fs : List Frame) → r ≡ role_of_class t.class → HeadsAt r first true false 0 (t ∷ ts) (λ f p d. Heads f p d fs (t ∷ ts)) → Heads true false 0 fs ts
 token_next Opens first t ts fs e is = begun fs true t ts (sym e) is
-token_next Closing first t ts fs e is = fresh fs false 0 ts (closed fs false 0 t ts (sym e) is.1)
+token_next Closing first t ts fs e is = fresh fs false 0 ts (closed fs t ts (sym e) is.1)
 token_next Arrow first t ts fs e is = no_arrow t.class (sym e)
-token_next Other first t ts fs e is = fresh fs false 0 ts (other_taken fs false false 0 t ts (sym e) is)
+token_next Other first t ts fs e is = fresh fs false 0 ts (other_taken fs t ts (sym e) is)
 
 pub not_not : (b : Bool) → not b ≡ true → b ≡ false
 not_not true e = cc
@@ -308,7 +288,7 @@ heads_close = record {
   );
   inserted = λ first from fs ts is. (fresh fs false 0 ts is.0, is.1);
   semicolon = λ first from fs t ts e is.
-      (fresh fs false 0 ts (other_taken fs false false 0 t ts (ap role_of_class (among_one t.class classes.Semicolon e)) is.0), is.1.1);
+      (fresh fs false 0 ts (other_taken fs t ts (ap role_of_class (among_one t.class classes.Semicolon e)) is.0), is.1.1);
   token = λ x first from fs t ts e is. (token_next (role_of_terminal x) first t ts fs (taken_role x t.class e) is.0, is.1.1);
   arrow = λ x first from fs t ts e is.
       arrow_if (takes_class x first && is_name first) (takes_class x classes.CloseParen && is_head first) from ts (λ both.
