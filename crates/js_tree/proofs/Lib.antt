@@ -16,7 +16,6 @@ pub mod Heads
 pub mod HeftFinishes
 pub mod Hefts
 pub mod Holding
-pub mod Laying
 pub mod Leading
 pub mod Marks
 pub mod Payments
