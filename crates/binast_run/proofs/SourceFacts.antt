@@ -16,11 +16,11 @@ use Rattle.js_parser.proofs.Accepted.{leaves_tell}
 use Rattle.js_parser.proofs.LeafNames.{names_of}
 use Rattle.js_tokens.specs.declared.kinds.Token.{Token}
 use Rattle.js_tree.specs.Nodes.{limited}
-use Rattle.js_tree.proofs.Scripts.{trees_are_scripts}
-use Rattle.js_tree.proofs.Sorts.{Is, Safely}
-use Rattle.js_tree.proofs.Told.{accepted_are_safe}
-use Rattle.js_tree.proofs.Trees.{limited_makes}
-use Rattle.js_tree.proofs.TreesHold.{trees_are_whole, trees_are_eager, trees_are_plain, trees_have_names}
+use Rattle.js_tree_laws.proofs.Scripts.{trees_are_scripts}
+use Rattle.js_tree_laws.proofs.Sorts.{Is, Safely}
+use Rattle.js_tree_laws.proofs.Told.{accepted_are_safe}
+use Rattle.js_tree_laws.proofs.Trees.{limited_makes}
+use Rattle.js_tree_laws.proofs.TreesHold.{trees_are_whole, trees_are_eager, trees_are_plain, trees_have_names}
 use Rattle.scope_facts.specs.Bare.{bare}
 use Rattle.string_table.specs.Entries.{AreDistinct}
 use Rattle.string_table.proofs.Laws.{AreDistinct-added}

@@ -26,8 +26,8 @@ use Rattle.js_parser.proofs.AnswerThere.{answer_there, refused_for_depth}
 use Rattle.js_parser.proofs.TextEntries.{entries_are_texts}
 use Rattle.js_tokens.specs.declared.kinds.Token.{Token}
 use Rattle.js_tokens.proofs.Whole.{heads-few}
-use Rattle.js_tree.proofs.Payments.{trees_are_small}
-use Rattle.js_tree.proofs.TreesHold.{trees_are_shallow}
+use Rattle.js_tree_laws.proofs.Payments.{trees_are_small}
+use Rattle.js_tree_laws.proofs.TreesHold.{trees_are_shallow}
 use Rattle.scope_facts.specs.declared.context.Violation.{Violation}
 use Rattle.scope_facts.specs.Exact.{eval_name, exact}
 use Rattle.scope_facts.specs.Filled.{filled}

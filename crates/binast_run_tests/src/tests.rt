@@ -1,6 +1,6 @@
-use binast_run::{Idle, run, run_in_memory};
 use crate::{file_cases, source_cases};
 use bast_base::{Chars, MemSink, MemSource, Steps, SureSink, SureSource};
+use binast_run::{Idle, run, run_in_memory};
 use std::alloc::{AllocError, Global};
 use std::test::Fail;
 

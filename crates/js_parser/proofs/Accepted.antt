@@ -15,9 +15,9 @@ use Rattle.js_tree.specs.Nodes.{limited}
 use Rattle.js_tree.specs.Tells.{LeavesTell, has_text}
 use Rattle.js_tree.specs.declared.fault.Fault.TheVariants as faults
 use Rattle.js_tree.specs.declared.leaf.Leaf.{Leaf}
-use Rattle.js_tree.proofs.Sorts.{Is, Safely}
-use Rattle.js_tree.proofs.Told.{accepted_are_safe}
-use Rattle.js_tree.proofs.Trees.{limited_makes}
+use Rattle.js_tree_laws.proofs.Sorts.{Is, Safely}
+use Rattle.js_tree_laws.proofs.Told.{accepted_are_safe}
+use Rattle.js_tree_laws.proofs.Trees.{limited_makes}
 
 stands_there : (entries : List (Option (List ℕ))) (bytes : List ℕ) (o : Option NameId) → Stands entries (Some bytes) o → (n : NameId) × (o ≡ Some n)
 stands_there entries bytes None stands = absurd stands

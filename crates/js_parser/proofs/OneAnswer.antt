@@ -22,9 +22,9 @@ use Rattle.js_tree.specs.Tells.{HasTree}
 use Rattle.js_tree.specs.declared.fault.Fault.{Fault}
 use Rattle.js_tree.specs.declared.fault.Fault.TheVariants.{TooDeep}
 use Rattle.js_tree.specs.declared.leaf.Leaf.{Leaf}
-use Rattle.js_tree.proofs.FollowImage.{deep_trees, trees_are_same}
-use Rattle.js_tree.proofs.Told.{accepted_have_trees}
-use Rattle.js_tree.proofs.TreesHold.{trees_are_shallow}
+use Rattle.js_tree_laws.proofs.FollowImage.{deep_trees, trees_are_same}
+use Rattle.js_tree_laws.proofs.Told.{accepted_have_trees}
+use Rattle.js_tree_laws.proofs.TreesHold.{trees_are_shallow}
 
 same_tokens : (text : List ℕ) (ts us : List Token) → AreTokens text ts → AreTokens text us → ts ≡ us
 same_tokens text ts us h k = h.1.1 ∙ ap with_heads (one_cut h.1.0 k.1.0) ∙ sym k.1.1

@@ -16,7 +16,7 @@ use Rattle.js_tokens.specs.declared.kinds.TokenKind.{TokenKind}
 use Rattle.js_tokens.specs.declared.kinds.TokenKind.TheVariants as kinds
 use Rattle.js_tokens.proofs.Scalars.{raw_is_text, value_is_text}
 use Rattle.js_tokens.proofs.Whole.{each_of, heads-each, stands_whole}
-use Rattle.js_tree.proofs.Small.{AreSmall, is_small, tokens_small}
+use Rattle.js_tree_laws.proofs.Small.{AreSmall, is_small, tokens_small}
 use Rattle.js_tree.specs.declared.fault.Fault.{Fault}
 use Rattle.string_table.specs.Entries.{place_in}
 

@@ -11,4 +11,3 @@ pub mod Runs
 pub mod Statements
 pub mod Steps
 pub mod Tells
-pub mod TreeLaws

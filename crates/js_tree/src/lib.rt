@@ -6,13 +6,13 @@
 //! Each row of the grammar has a recipe: steps that gather the parts of its symbols, and a finish that makes the part
 //! of the row itself. Begin with `specs/Recipes.antt`, the recipe of each row; `specs/Steps.antt` and
 //! `specs/Finishes.antt` say what recipes do, `specs/Parts.antt` what a symbol stands for meanwhile, and
-//! `specs/Image.antt` which tree the steps stand for, without regard to how it is built.
+//! `specs/Image.antt` which tree the steps stand for, without regard to how it is built. What holds of these trees stands
+//! in `js_tree_laws`.
 #![tactic(auto)]
 
 mod build;
 mod fault;
 mod finishes;
-mod laws;
 mod leaf;
 mod nodes;
 mod operators;
@@ -23,11 +23,8 @@ mod run;
 mod statements;
 mod steps;
 mod switches;
-mod tree_laws;
 mod work;
 
 pub use build::build_tree;
 pub use fault::Fault;
-pub use laws::accepted_have_trees;
 pub use leaf::Leaf;
-pub use tree_laws::{limit_refuses_deep_trees, trees_hold};

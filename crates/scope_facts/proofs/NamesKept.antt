@@ -150,7 +150,6 @@ le_self n = omega arith
 pub all_entered : {P : Shape → Data → Type 0} (after : Data) → Entered (size_in after) (λ n. true) P → (s : Shape) (names : List ℕ) → P s (entries s names after)
 all_entered after c s names = entries_entered c s names after (le_self (size_in after)) (any_list names) (any_names_in after)
 
-
 -- filled: the scopes get entries of names with a property, from values that are not too many
 
 pub record Filled (n : ℕ) (p : ℕ → Bool) (k : Kind) (ds es : Data) : Type 0 where

@@ -42,4 +42,3 @@ pub use laws::{
 };
 pub use names::{Declared, NameKind, bound_name, first_name_of};
 pub use roles::{Form, Part, Shape, form_of, is_scope_value, part_of, scope_shape};
-

@@ -3,9 +3,9 @@ use Rattle.bast_schema.specs.Counts.{size}
 use Rattle.js_parser.proofs.LeafNames.{names_of}
 use Rattle.js_tree.specs.Image.{tree_of}
 use Rattle.js_tree.specs.Nodes.{limited}
-use Rattle.js_tree.proofs.Payments.{trees_are_small}
-use Rattle.js_tree.proofs.Scripts.{trees_are_scripts}
-use Rattle.js_tree.proofs.TreesHold.{trees_are_whole, trees_are_eager, trees_are_plain, trees_have_names, trees_are_shallow}
+use Rattle.js_tree_laws.proofs.Payments.{trees_are_small}
+use Rattle.js_tree_laws.proofs.Scripts.{trees_are_scripts}
+use Rattle.js_tree_laws.proofs.TreesHold.{trees_are_whole, trees_are_eager, trees_are_plain, trees_have_names, trees_are_shallow}
 use Rattle.js_machine.specs.Machine.{Accepted, Ends}
 use Rattle.js_parser.specs.Leaves.{AreLeaves}
 use Rattle.js_tree.specs.Results.{Fails}
