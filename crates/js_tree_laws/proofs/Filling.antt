@@ -28,8 +28,8 @@ use Rattle.js_tree.specs.declared.recipe.Declared.TheVariants as declared
 use Rattle.js_tree.specs.declared.recipe.Finish.{Finish}
 use Rattle.js_tree.specs.declared.recipe.Finish.TheVariants as finishes
 use Rattle.js_tree.specs.declared.work.Work.{Work}
-use Rattle.js_tree_laws.proofs.Sorts.{Sort, Of, Rest, Nothing, Many, Maybe, Clauses, Parameters, RestIs, Holds, Tail, NoTail, Turns, Names, Fills, Binds, Any, PartSort, Values, Endings, Items, PartIs, AreEndings, Is, IsMaker, Safely, TurnsTo, Operand, Filling, Binding, declarators, within, suits, suit, shape_within, case, default, last_parameter}
-use Rattle.js_tree_laws.proofs.Shapes.{and_left, and_right, both, three, suits_sound, suit_sound, shape_sound}
+use Rattle.js_tree_laws.proofs.Sorts.{Sort, Of, Rest, Nothing, Many, Maybe, Clauses, Parameters, RestIs, Holds, Tail, NoTail, Turns, Names, Fills, Binds, Any, PartSort, Values, Endings, Items, PartIs, AreEndings, Is, IsMaker, Safely, TurnsTo, Operand, Filling, Binding, declarators, within, suits, suit, shape_within, case, default, last_parameter, sorts_of}
+use Rattle.js_tree_laws.proofs.Shapes.{and_left, and_right, both, three, suits_sound, suit_sound, shape_sound, node_items}
 use Rattle.js_tree_laws.proofs.Gathers.{Shape, WorkIs, PartsAre, a_node}
 use Rattle.js_tree_laws.proofs.Safe.{safely_bind, safely_map, widened, made_in}
 use Rattle.js_tree_laws.proofs.Closing.{Makes, none_left, one_left, node_target, values_target, tail_target, items_target, turns_target, at_node, at_values, at_tail, at_items, at_turns, nothing_left, on_top, operand_within, operand_sound, tail_within, tail_sound, part_within, same_sound, after_sound, around, plainly}
@@ -93,10 +93,6 @@ for_of m maker declared.Var b is = made_in m maker unions.ForTarget kinds.ForInO
 for_of m maker declared.Let b is = made_in m maker unions.ForTarget kinds.ForInOfBinding (two (choice for_let) b) refl (both _ _ is refl)
 for_of m maker declared.Const b is = made_in m maker unions.ForTarget kinds.ForInOfBinding (two (choice for_const) b) refl (both _ _ is refl)
 
-declarators_fit : (ds : Data) → RestIs declarators ds → items_fit (unions.One kinds.VariableDeclarator) false ds ≡ true
-declarators_fit none is = refl
-declarators_fit (more d ds) is = both _ _ is.0 (declarators_fit ds is.1)
-
 declaration_safe : (m : Maker) → IsMaker m → (how : Declared) (d : Datum) (ds : Data) → items_fit (unions.One kinds.VariableDeclarator) false (more d ds) ≡ true → Safely (Is unions.ForInit) (declaration m how (more d ds))
 declaration_safe m maker declared.Var d ds is = made_in m maker unions.ForInit kinds.VarDeclaration (one (listed (more d ds))) refl (both _ _ is refl)
 declaration_safe m maker declared.Let d ds is = made_in m maker unions.ForInit kinds.LexicalDeclaration (two (choice lexical_let) (listed (more d ds))) refl (both _ _ is refl)
@@ -107,7 +103,7 @@ declared_safe : (m : Maker) → IsMaker m → (how : Declared) (b : Datum) (ds :
 declared_safe m maker how b none is holds = absurd holds
 declared_safe m maker how b (more d ds) is holds =
     safely_bind (Is (unions.One kinds.VariableDeclarator)) (Is unions.ForInit) (m kinds.VariableDeclarator (two b d)) _ (made_in m maker (unions.One kinds.VariableDeclarator) kinds.VariableDeclarator (two b d) refl (both _ _ is (both _ _ holds.0 refl)))
-    (λ t e. declaration_safe m maker how (child t) ds (both _ _ e (declarators_fit ds holds.1)))
+    (λ t e. declaration_safe m maker how (child t) ds (both _ _ e (node_items (unions.One kinds.VariableDeclarator) ds holds.1)))
 
 bound_safe : (m : Maker) → IsMaker m → (how : Declared) (b : Datum) (e : Ending) (v : Union) (ps qs : List Part) → within unions.Body v ≡ true → ps ≡ qs → fits (field.Node (unions.One kinds.BindingIdentifier)) b ≡ true → Binding e
     → Makes m (Endings (Turns (Any unions.Body) v)) qs (bound m how b e ps)
@@ -238,16 +234,12 @@ one_child v (more _ ds) e = cc
 abbrev pub sequence_fit : Shape → Union → Bool
 sequence_fit a v = suit a.held (field.Node unions.Expression ∷ []) && shape_within a.front a.rest [] (Many (field.Node unions.Expression)) && within unions.Expression v
 
-expressions_fit : (ds : Data) → RestIs (Many (field.Node unions.Expression)) ds → items_fit unions.Expression false ds ≡ true
-expressions_fit none is = refl
-expressions_fit (more d ds) is = both _ _ is.0 (expressions_fit ds is.1)
-
 sequence_of : (m : Maker) → IsMaker m → (v : Union) (first : Tree) (ds : Data) (raw : Option NameId) (ps qs : List Part) → within unions.Expression v ≡ true → Is unions.Expression first → RestIs (Many (field.Node unions.Expression)) ds → ps ≡ qs
     → Makes m (Values (field.Node v ∷ []) Nothing) qs (cond (is_none ds) (with_values (more (child first) none) raw ps) (with_made (m kinds.SequenceExpression (join (more (child first) none) (one (listed ds)))) ps))
 sequence_of m maker v first none raw ps qs inside is rest_is same = on_top m (Values (field.Node v ∷ []) Nothing) (parts.Values (more (child first) none) raw) ps qs same (widened unions.Expression v first inside is, tt)
 sequence_of m maker v first (more d ds) raw ps qs inside is rest_is same =
     made_on_top m v (m kinds.SequenceExpression (more (child first) (one (listed (more d ds))))) ps qs same (safely_map (Is unions.Expression) (Is v) (m kinds.SequenceExpression (more (child first) (one (listed (more d ds))))) (λ t. widened unions.Expression v t inside)
-    (made_in m maker unions.Expression kinds.SequenceExpression (more (child first) (one (listed (more d ds)))) refl (both _ _ is (both _ _ (expressions_fit (more d ds) rest_is) refl))))
+    (made_in m maker unions.Expression kinds.SequenceExpression (more (child first) (one (listed (more d ds)))) refl (both _ _ is (both _ _ (node_items unions.Expression (more d ds) rest_is) refl))))
 
 sequence_sound : (m : Maker) → IsMaker m → (a : Shape) (v : Union) (w : Work) (ps qs : List Part) → sequence_fit a v ≡ true → ps ≡ qs → WorkIs m a w → Makes m (Values (field.Node v ∷ []) Nothing) qs (sequence m w ps)
 unfolding sequence
@@ -272,16 +264,12 @@ instead_at _ f = unions.ObjectProperty
 instead_value : (a : Shape) (x : Tail) → instead_fit a x ≡ true → (is_nothing a.rest && suit a.front (field.Node (instead_at x (λ o v. true)) ∷ [])) ≡ true
 instead_value a (Turns o v) e = e
 instead_value a Names e = e
-instead_value a NoTail e = cc
-instead_value a (Fills s) e = cc
-instead_value a Binds e = cc
+instead_value a _ e = cc
 
 instead_are : (m : Maker) (a : Shape) (x : Tail) (u : Tree) → instead_fit a x ≡ true → Is (instead_at x (λ o v. true)) u → AreEndings m x (endings.Instead u ∷ [])
 instead_are m a (Turns o v) u e is = instead_turns m o v u is
 instead_are m a Names u e is = λ some. instead_turns m (Any unions.PropertyName) unions.ObjectProperty u is
-instead_are m a NoTail u e is = cc
-instead_are m a (Fills s) u e is = cc
-instead_are m a Binds u e is = cc
+instead_are m a _ u e is = cc
 
 instead_sound : (m : Maker) (a : Shape) (x : Tail) (w : Work) (ps qs : List Part) → instead_fit a x ≡ true → ps ≡ qs → WorkIs m a w → Makes m (Endings x) qs (instead w ps)
 unfolding instead
@@ -313,10 +301,6 @@ a_default _ e = cc
 abbrev cases : Data → Type 0
 cases ds = items_fit (unions.One kinds.SwitchCase) false ds ≡ true
 
-only_cases : (ds : Data) → RestIs (Many case) ds → cases ds
-only_cases none is = refl
-only_cases (more d ds) is = both _ _ is.0 (only_cases ds is.1)
-
 abbrev FromDefault : Data → Type 0
 FromDefault none = Unit {0}
 FromDefault (more d ds) = (fits default d ≡ true) × cases ds
@@ -332,7 +316,7 @@ at_first_default false d before behind rest e is are = cc
 clauses_part : (ds : Data) → RestIs Clauses ds → cases (before_default ds) × FromDefault (from_default ds)
 clauses_part none is = (refl, tt)
 clauses_part (more d ds) (inl is) = let h = clauses_part ds is.1 in at_case (is_default d) d (before_default ds) (from_default ds) ds (not_default d is.0) is.0 h.0 h.1
-clauses_part (more d ds) (inr is) = at_first_default (is_default d) d (before_default ds) (from_default ds) ds (a_default d is.0) is.0 (only_cases ds is.1)
+clauses_part (more d ds) (inr is) = at_first_default (is_default d) d (before_default ds) (from_default ds) ds (a_default d is.0) is.0 (node_items (unions.One kinds.SwitchCase) ds is.1)
 
 abbrev pub switch_head : List FieldType
 switch_head = field.Node unions.Expression ∷ a_node kinds.AssertedBlockScope ∷ []
@@ -342,26 +326,22 @@ switch_with m maker e s before none is_e is_s are more_are = made_in m maker uni
 switch_with m maker e s before (more d behind) is_e is_s are more_are =
     made_in m maker unions.Body kinds.SwitchStatementWithDefault (more e (more s (more (listed before) (two d (listed behind))))) refl (both _ _ is_e (both _ _ is_s (both _ _ are (both _ _ more_are.0 (both _ _ more_are.1 refl)))))
 
-switch_held : (m : Maker) → IsMaker m → (held before behind : Data) → fit switch_head held ≡ true → cases before → FromDefault behind → Safely (Is unions.Body) (switch_of m held before behind)
-switch_held m maker none before behind is are more_are = cc
-switch_held m maker (more e none) before behind is are more_are = let no : false ≡ true = and_right (fits (field.Node unions.Expression) e) false is in cc
-switch_held m maker (more e (more s none)) before behind is are more_are =
-    let rest_is = and_right (fits (field.Node unions.Expression) e) (fits (a_node kinds.AssertedBlockScope) s && true) is in
-    switch_with m maker e s before behind (and_left (fits (field.Node unions.Expression) e) (fits (a_node kinds.AssertedBlockScope) s && true) is) (and_left (fits (a_node kinds.AssertedBlockScope) s) true rest_is) are more_are
-switch_held m maker (more e (more s (more d ds))) before behind is are more_are =
-    let rest_is = and_right (fits (field.Node unions.Expression) e) (fits (a_node kinds.AssertedBlockScope) s && false) is in
-    let no : false ≡ true = and_right (fits (a_node kinds.AssertedBlockScope) s) false rest_is in cc
+switch_held : (m : Maker) → IsMaker m → (held before behind : Data) → Holds (sorts_of switch_head) Nothing held → cases before → FromDefault behind → Safely (Is unions.Body) (switch_of m held before behind)
+switch_held m maker none before behind is are more_are = absurd is
+switch_held m maker (more e none) before behind is are more_are = absurd is.1
+switch_held m maker (more e (more s none)) before behind is are more_are = switch_with m maker e s before behind is.0 is.1.0 are more_are
+switch_held m maker (more e (more s (more d ds))) before behind is are more_are = absurd is.1.1
 
 abbrev pub switch_fit : Shape → Union → Bool
-switch_fit a v = suit a.held switch_head && shape_within a.front a.rest [] Clauses && within unions.Body v
+switch_fit a v = shape_within a.held Nothing switch_head Nothing && shape_within a.front a.rest [] Clauses && within unions.Body v
 
 switch_sound : (m : Maker) → IsMaker m → (a : Shape) (v : Union) (w : Work) (ps qs : List Part) → switch_fit a v ≡ true → ps ≡ qs → WorkIs m a w → Makes m (Values (field.Node v ∷ []) Nothing) qs (switch m w ps)
 unfolding switch
 switch_sound m maker a v w ps qs fit_is same is =
-    let h = three (suit a.held switch_head) (shape_within a.front a.rest [] Clauses) (within unions.Body v) fit_is in
+    let h = three (shape_within a.held Nothing switch_head Nothing) (shape_within a.front a.rest [] Clauses) (within unions.Body v) fit_is in
     let c = clauses_part w.values (shape_sound a.front a.rest [] Clauses w.values h.1 is.values) in
     made_on_top m v (switch_of m w.held (before_default w.values) (from_default w.values)) ps qs same
-    (safely_map (Is unions.Body) (Is v) (switch_of m w.held (before_default w.values) (from_default w.values)) (λ t. widened unions.Body v t h.2) (switch_held m maker w.held (before_default w.values) (from_default w.values) (suit_sound a.held switch_head w.held h.0 is.held) c.0 c.1))
+    (safely_map (Is unions.Body) (Is v) (switch_of m w.held (before_default w.values) (from_default w.values)) (λ t. widened unions.Body v t h.2) (switch_held m maker w.held (before_default w.values) (from_default w.values) (shape_sound a.held Nothing switch_head Nothing w.held h.0 is.held) c.0 c.1))
 
 -- the parameters of a function
 all_but_last : (d : Datum) (ds : Data) → RestIs Parameters (more d ds) → (items_fit unions.Parameter false (last_behind d ds).0 ≡ true) × (fits last_parameter (last_behind d ds).1 ≡ true)
@@ -447,8 +427,7 @@ leaves_sound : (m : Maker) → IsMaker m → (o : Checked) (g : Gathered) (f : F
 leaves_sound m maker None g f t qs e is = cc
 leaves_sound m maker (Some x) (Ok y) f t qs e is = finish_sound m maker f x.0 x.1 t y.0 y.1 qs e is.0 is.1
 leaves_sound m maker (Some x) (Err faults.TooDeep) f t qs e is = tt
-leaves_sound m maker (Some x) (Err faults.Broken) f t qs e is = absurd is
-leaves_sound m maker (Some x) (Err faults.Memory) f t qs e is = absurd is
+leaves_sound m maker (Some x) (Err _) f t qs e is = absurd is
 
 pub row_sound : (m : Maker) → IsMaker m → (r : RowId) (ss : List PartSort) (t : PartSort) (ps qs : List Part) → row_fits r ss t ≡ true → PartsAre m ss ps qs → Makes m t qs (row_part m r ps)
 unfolding row_part

@@ -114,12 +114,6 @@ directives_held : (m : Maker) (P : Datum → Type 0) → Kept m P → (is : List
 directives_held m P kept [] h = tt
 directives_held m P kept (i ∷ is) h = directives_held_from m P kept i.raw (directives m is) h.1 (directives_held m P kept is h.2)
 
-closed_got : (m : Maker) (P : Datum → Type 0) → Kept m P → (j : Kind) → is_made j ≡ true → (w : Work) → HoldsWork P w → Holds (HoldsWork P) (closed m j w)
-unfolding closed
-closed_got m P kept j is w h =
-    then (λ t. P (child t)) (HoldsWork P) (m j w.values) (λ t. Ok (record w { values = one (child t) })) (node_made m P kept j w.values is h.values)
-    (λ t it. record { values = (it, tt); held = h.held; directives = h.directives; raw = h.raw; endings = h.endings; items = h.items })
-
 -- no step of a recipe makes a kind that is lazy, or a scope that tells names
 abbrev pub is_made_by : Step → Bool
 is_made_by (steps.Named k) = is_common k
@@ -128,7 +122,7 @@ is_made_by (steps.Close k) = is_made k
 is_made_by _ = true
 
 step_got : (m : Maker) (P : Datum → Type 0) → Kept m P → (s : Step) (w : Work) (ps : List Part) → is_made_by s ≡ true → HoldsWork P w → HoldsParts P ps → Holds (Got P) (step_on m s w ps)
-unfolding skip put operand wrap text whole_number named quoted with_operator parameter template_part tail rest with_statements body hold resume
+unfolding skip put operand wrap text whole_number named quoted with_operator parameter template_part tail rest with_statements body hold resume closed
 step_got m P kept steps.Skip w ps is h k = then (HoldsParts P) (Got P) (without_top ps) (λ rest. Ok (w, rest)) (top_taken P ps k) (λ rest r. (h, r))
 step_got m P kept steps.Put w ps is h k =
     then (ValuesTaken P) (Got P) (taken_values ps) (λ v. Ok (record w { values = join w.values v.0.0 }, v.1)) (values_taken P ps k) (λ v r. (with_values P w v.0.0 h r.0.0, r.1))
@@ -194,7 +188,10 @@ step_got m P kept steps.Hold w ps is h k = (record { values = tt; held = h.value
 step_got m P kept steps.Resume w ps is h k =
     let all = each_join P w.held (more (listed w.directives) w.values) h.held (kept.list w.directives h.directives, h.values)
     in (record { values = all; held = tt; directives = tt; raw = h.raw; endings = h.endings; items = h.items }, k)
-step_got m P kept (steps.Close j) w ps is h k = then (HoldsWork P) (Got P) (closed m j w) (λ x. Ok (x, ps)) (closed_got m P kept j is w h) (λ x ix. (ix, k))
+step_got m P kept (steps.Close j) w ps is h k =
+    then (HoldsWork P) (Got P) (closed m j w) (λ x. Ok (x, ps))
+    (then (λ t. P (child t)) (HoldsWork P) (m j w.values) (λ t. Ok (record w { values = one (child t) })) (node_made m P kept j w.values is h.values)
+    (λ t it. record { values = (it, tt); held = h.held; directives = h.directives; raw = h.raw; endings = h.endings; items = h.items })) (λ x ix. (ix, k))
 
 abbrev pub all_made_by : List Step → Bool
 all_made_by [] = true

@@ -30,23 +30,20 @@ use Rattle.js_tree.specs.declared.recipe.Finish.{Finish}
 use Rattle.js_tree.specs.declared.recipe.Finish.TheVariants as finishes
 use Rattle.js_tree.specs.declared.work.Work.{Work}
 use Rattle.js_tree_laws.proofs.Holding.{Holds, then, either}
-use Rattle.js_tree_laws.proofs.Hefts.{Sized, heft_form, heft_ending, heft_endings, heft_parts, heft_work, size_join, Got, ValuesLeft, PartsLeft, TreeOf, values_left, first_left, one_left, up_to, one_node_left, node_made, steps_cost, all_got}
-use Rattle.js_tree_laws.proofs.TreesHold.{limited_made, held_in}
+use Rattle.js_tree_laws.proofs.Hefts.{Sized, heft_form, heft_ending, heft_part, total, heft_work, size_join, Got, ValuesLeft, PartsLeft, TreeOf, values_left, first_left, one_left, up_to, one_node_left, node_made, step_cost, all_got}
+use Rattle.js_tree_laws.proofs.TreesHold.{limited_made, held_in, no_name_here}
 
-made_end : (made : Result Tree Fault) (ps : List Part) (k n : ℕ) → Holds (TreeOf k) made → k + heft_parts ps ≤ n → Holds (PartsLeft n) (made >>= λ t. Ok (parts.Values (one (child t)) None ∷ ps))
+made_end : (made : Result Tree Fault) (ps : List Part) (k n : ℕ) → Holds (TreeOf k) made → k + total heft_part ps ≤ n → Holds (PartsLeft n) (made >>= λ t. Ok (parts.Values (one (child t)) None ∷ ps))
 made_end made ps k n h le = then (TreeOf k) (PartsLeft n) made (λ t. Ok (parts.Values (one (child t)) None ∷ ps)) h (λ t it. omega (arith, it))
 
 -- an identifier has a name
-none_not_some : {A : Type 0} (n : ℕ) → None ≡ Some n → A
-none_not_some n e = cc
-
 name_counts : (ds : Data) (n : ℕ) → first_name ds ≡ Some n → 1 ≤ size_in ds
 name_counts (more (name i) ds) n e = omega arith
-name_counts _ n e = none_not_some n e
+name_counts _ n e = no_name_here n e
 
 identifier_by : (b : Bool) (ds : Data) (n : ℕ) → cond b (first_name ds) None ≡ Some n → 2 ≤ 1 + size_in ds
 identifier_by true ds n e = omega (arith, name_counts ds n e)
-identifier_by false ds n e = none_not_some n e
+identifier_by false ds n e = no_name_here n e
 
 identifier_counts : (t : Tree) (n : ℕ) → identifier t ≡ Some n → 2 ≤ size t
 identifier_counts (branch k ds) n e = identifier_by (same_kind k kinds.IdentifierExpression) ds n e
@@ -92,27 +89,27 @@ ended_size m sized (endings.Around k form before behind) t =
     (λ d id. node_made m sized k (join before (more d behind)) (1 + heft_form form + size_in before + size_in behind + size t) (omega (arith, id, size_join before (more d behind))))
 ended_size m sized (endings.Instead u) t = omega arith
 
-folded_size : (m : Maker) → Sized m → (es : List Ending) (t : Tree) (n : ℕ) → heft_endings es + size t ≤ n → Holds (TreeOf n) (folded m es t)
+folded_size : (m : Maker) → Sized m → (es : List Ending) (t : Tree) (n : ℕ) → total heft_ending es + size t ≤ n → Holds (TreeOf n) (folded m es t)
 folded_size m sized [] t n le = omega arith
 folded_size m sized (e ∷ es) t n le = then (TreeOf (heft_ending e + size t)) (TreeOf n) (ended m e t) (folded m es) (ended_size m sized e t) (λ u iu. folded_size m sized es u n (omega (arith, iu)))
 
-one_ending_left : (es : List Ending) → Holds (λ e. heft_ending e ≤ heft_endings es) (one_ending es)
+one_ending_left : (es : List Ending) → Holds (λ e. heft_ending e ≤ total heft_ending es) (one_ending es)
 one_ending_left [] = tt
-one_ending_left (e ∷ es) = either (λ f. heft_ending f ≤ heft_ending e + heft_endings es) (length es == 0) (Ok e) broken (omega arith) tt
+one_ending_left (e ∷ es) = either (λ f. heft_ending f ≤ heft_ending e + total heft_ending es) (length es == 0) (Ok e) broken (omega arith) tt
 
-folds_left : (m : Maker) → Sized m → (w : Work) (ps : List Part) (n : ℕ) → heft_work w + heft_parts ps ≤ n → Holds (PartsLeft n) (folds m w ps)
+folds_left : (m : Maker) → Sized m → (w : Work) (ps : List Part) (n : ℕ) → heft_work w + total heft_part ps ≤ n → Holds (PartsLeft n) (folds m w ps)
 unfolding folds
 folds_left m sized w ps n le =
     either (PartsLeft n) (length w.endings == 0) (Ok (parts.Values w.values w.raw ∷ ps)) _ (omega arith)
     (then (TreeOf (size_in w.values)) (PartsLeft n) (one_node w.values) (λ t. folded m w.endings t >>= λ t. Ok (parts.Values (one (child t)) None ∷ ps)) (one_node_left w.values)
-    (λ t it. made_end (folded m w.endings t) ps (heft_endings w.endings + size_in w.values) n (folded_size m sized w.endings t (heft_endings w.endings + size_in w.values) (omega (arith, it))) (omega arith)))
+    (λ t it. made_end (folded m w.endings t) ps (total heft_ending w.endings + size_in w.values) n (folded_size m sized w.endings t (total heft_ending w.endings + size_in w.values) (omega (arith, it))) (omega arith)))
 
 shorthand_size : (m : Maker) → Sized m → (ds : Data) → Holds (TreeOf (2 + size_in ds)) (shorthand m ds)
 shorthand_size m sized ds =
     then (TreeOf (1 + size_in ds)) (TreeOf (2 + size_in ds)) (m kinds.IdentifierExpression ds) (λ t. m kinds.ShorthandProperty (one (child t))) (node_made m sized kinds.IdentifierExpression ds (1 + size_in ds) (omega arith))
     (λ t it. node_made m sized kinds.ShorthandProperty (one (child t)) (2 + size_in ds) (omega (arith, it)))
 
-filled_left : (e : Ending) (d : Datum) (ps : List Part) (n : ℕ) → heft_ending e + size_at d + heft_parts ps ≤ n → Holds (PartsLeft n) (filled e d ps)
+filled_left : (e : Ending) (d : Datum) (ps : List Part) (n : ℕ) → heft_ending e + size_at d + total heft_part ps ≤ n → Holds (PartsLeft n) (filled e d ps)
 filled_left (endings.Around j form before behind) d ps n le = omega (arith, size_join before (more d behind))
 filled_left (endings.Instead t) d ps n le = tt
 
@@ -130,13 +127,13 @@ left_size m sized how b (forms.Declared ds) n le =
 left_size m sized how b _ n le = tt
 
 -- the form counts no more once it is used
-bound_left : (m : Maker) → Sized m → (how : Declared) (b : Datum) (e : Ending) (ps : List Part) (n : ℕ) → 4 + size_at b + heft_ending e + heft_parts ps ≤ n → Holds (PartsLeft n) (bound m how b e ps)
+bound_left : (m : Maker) → Sized m → (how : Declared) (b : Datum) (e : Ending) (ps : List Part) (n : ℕ) → 4 + size_at b + heft_ending e + total heft_part ps ≤ n → Holds (PartsLeft n) (bound m how b e ps)
 bound_left m sized how b (endings.Around j form before behind) ps n le =
     then (TreeOf (4 + size_at b + heft_form form)) (PartsLeft n) (left_of m how b form) (λ t. filled (endings.Around j form before behind) (child t) ps) (left_size m sized how b form (4 + size_at b + heft_form form) (omega arith))
     (λ t it. omega (arith, it, size_join before (more (child t) behind)))
 bound_left m sized how b (endings.Instead t) ps n le = tt
 
-declaring_left : (ds : Data) (e : Ending) (ps : List Part) (n : ℕ) → size_in ds + heft_ending e + heft_parts ps ≤ n → Holds (PartsLeft n) (declaring ds e ps)
+declaring_left : (ds : Data) (e : Ending) (ps : List Part) (n : ℕ) → size_in ds + heft_ending e + total heft_part ps ≤ n → Holds (PartsLeft n) (declaring ds e ps)
 declaring_left ds (endings.Around j form before behind) ps n le = omega arith
 declaring_left ds (endings.Instead t) ps n le = tt
 
@@ -177,7 +174,7 @@ finish_cost finishes.Switch = 3
 finish_cost finishes.Parameters = 2
 finish_cost _ = 0
 
-finish_left : (m : Maker) → Sized m → (f : Finish) (w : Work) (ps : List Part) (n : ℕ) → heft_work w + heft_parts ps + finish_cost f ≤ n → Holds (PartsLeft n) (finish_on m f w ps)
+finish_left : (m : Maker) → Sized m → (f : Finish) (w : Work) (ps : List Part) (n : ℕ) → heft_work w + total heft_part ps + finish_cost f ≤ n → Holds (PartsLeft n) (finish_on m f w ps)
 unfolding fills binds declares arrow_body tries sequence statement property instead add_item switch parameters
 finish_left m sized finishes.Same w ps n le = omega arith
 finish_left m sized finishes.Values w ps n le = omega arith
@@ -188,12 +185,12 @@ finish_left m sized (finishes.EndsLabel j) w ps n le = omega arith
 finish_left m sized finishes.Endings w ps n le = omega arith
 finish_left m sized finishes.Fills w ps n le =
     then (λ d. size_at d ≤ size_in w.values) (PartsLeft n) (one_value w.values) (λ d. one_ending w.endings >>= λ e. filled e d ps) (one_left w.values)
-    (λ d id. then (λ e. heft_ending e ≤ heft_endings w.endings) (PartsLeft n) (one_ending w.endings) (λ e. filled e d ps) (one_ending_left w.endings) (λ e ie. filled_left e d ps n (omega (arith, id, ie))))
+    (λ d id. then (λ e. heft_ending e ≤ total heft_ending w.endings) (PartsLeft n) (one_ending w.endings) (λ e. filled e d ps) (one_ending_left w.endings) (λ e ie. filled_left e d ps n (omega (arith, id, ie))))
 finish_left m sized (finishes.Binds how) w ps n le =
     then (λ d. size_at d ≤ size_in w.values) (PartsLeft n) (one_value w.values) (λ d. one_ending w.endings >>= λ e. bound m how d e ps) (one_left w.values)
-    (λ d id. then (λ e. heft_ending e ≤ heft_endings w.endings) (PartsLeft n) (one_ending w.endings) (λ e. bound m how d e ps) (one_ending_left w.endings) (λ e ie. bound_left m sized how d e ps n (omega (arith, id, ie))))
+    (λ d id. then (λ e. heft_ending e ≤ total heft_ending w.endings) (PartsLeft n) (one_ending w.endings) (λ e. bound m how d e ps) (one_ending_left w.endings) (λ e ie. bound_left m sized how d e ps n (omega (arith, id, ie))))
 finish_left m sized finishes.Declares w ps n le =
-    then (λ e. heft_ending e ≤ heft_endings w.endings) (PartsLeft n) (one_ending w.endings) (λ e. declaring w.values e ps) (one_ending_left w.endings) (λ e ie. declaring_left w.values e ps n (omega (arith, ie)))
+    then (λ e. heft_ending e ≤ total heft_ending w.endings) (PartsLeft n) (one_ending w.endings) (λ e. declaring w.values e ps) (one_ending_left w.endings) (λ e ie. declaring_left w.values e ps n (omega (arith, ie)))
 finish_left m sized finishes.ArrowBody w ps n le = omega arith
 finish_left m sized finishes.Tries w ps n le = omega arith
 finish_left m sized finishes.Sequence w ps n le =
@@ -207,7 +204,7 @@ finish_left m sized finishes.Statement w ps n le =
 finish_left m sized finishes.Property w ps n le =
     either (PartsLeft n) (length w.endings == 0) _ _ (made_end (shorthand m w.values) ps (2 + size_in w.values) n (shorthand_size m sized w.values) (omega arith))
     (then (TreeOf (1 + size_in w.values)) (PartsLeft n) (m kinds.LiteralPropertyName w.values) (λ t. folded m w.endings t >>= λ t. Ok (parts.Values (one (child t)) None ∷ ps)) (node_made m sized kinds.LiteralPropertyName w.values (1 + size_in w.values) (omega arith))
-    (λ t it. made_end (folded m w.endings t) ps (heft_endings w.endings + 1 + size_in w.values) n (folded_size m sized w.endings t (heft_endings w.endings + 1 + size_in w.values) (omega (arith, it))) (omega arith)))
+    (λ t it. made_end (folded m w.endings t) ps (total heft_ending w.endings + 1 + size_in w.values) n (folded_size m sized w.endings t (total heft_ending w.endings + 1 + size_in w.values) (omega (arith, it))) (omega arith)))
 finish_left m sized finishes.Instead w ps n le =
     then (TreeOf (size_in w.values)) (PartsLeft n) (one_node w.values) (λ t. Ok (parts.Endings (endings.Instead t ∷ []) ∷ ps)) (one_node_left w.values) (λ t it. omega (arith, it))
 finish_left m sized finishes.Items w ps n le =
@@ -221,50 +218,46 @@ finish_left m sized finishes.Parameters w ps n le =
     (λ l il. made_end (m kinds.FormalParameters (two (listed l.0) l.1)) ps (2 + size_in w.values) n (node_made m sized kinds.FormalParameters (two (listed l.0) l.1) (2 + size_in w.values) (omega (arith, il))) (omega arith))
 
 abbrev pub row_cost : RowId → ℕ
-row_cost r = steps_cost (recipe r).0 + finish_cost (recipe r).1
+row_cost r = total step_cost (recipe r).0 + finish_cost (recipe r).1
 
-row_left : (m : Maker) → Sized m → (r : RowId) (ps : List Part) → Holds (PartsLeft (heft_parts ps + row_cost r)) (row_part m r ps)
+row_left : (m : Maker) → Sized m → (r : RowId) (ps : List Part) → Holds (PartsLeft (total heft_part ps + row_cost r)) (row_part m r ps)
 unfolding row_part
 row_left m sized r ps =
-    then (Got (heft_parts ps + steps_cost (recipe r).0)) (PartsLeft (heft_parts ps + row_cost r)) (gathered m (recipe r).0 no_work ps) (λ g. finish_on m (recipe r).1 g.0 g.1)
-    (all_got m sized (recipe r).0 no_work ps (heft_parts ps + steps_cost (recipe r).0) (omega arith))
-    (λ g ig. finish_left m sized (recipe r).1 g.0 g.1 (heft_parts ps + row_cost r) (omega (arith, ig)))
-
-abbrev pub rows_cost : List RowId → ℕ
-rows_cost [] = 0
-rows_cost (r ∷ rs) = row_cost r + rows_cost rs
+    then (Got (total heft_part ps + total step_cost (recipe r).0)) (PartsLeft (total heft_part ps + row_cost r)) (gathered m (recipe r).0 no_work ps) (λ g. finish_on m (recipe r).1 g.0 g.1)
+    (all_got m sized (recipe r).0 no_work ps (total heft_part ps + total step_cost (recipe r).0) (omega arith))
+    (λ g ig. finish_left m sized (recipe r).1 g.0 g.1 (total heft_part ps + row_cost r) (omega (arith, ig)))
 
 abbrev StateLeft : ℕ → List Leaf × List Part → Type 0
-StateLeft n s = heft_parts s.1 ≤ n
+StateLeft n s = total heft_part s.1 ≤ n
 
-leaf_left : (ls : List Leaf) (ps : List Part) (n : ℕ) → heft_parts ps ≤ n → Holds (StateLeft n) (leaf_part ls ps)
+leaf_left : (ls : List Leaf) (ps : List Part) (n : ℕ) → total heft_part ps ≤ n → Holds (StateLeft n) (leaf_part ls ps)
 leaf_left [] ps n le = tt
 leaf_left (l ∷ ls) ps n le = omega arith
 
-image_left : (m : Maker) → Sized m → (ls : List Leaf) (es : List Event) → Holds (StateLeft (rows_cost (rows_among es))) (image m ls es)
+image_left : (m : Maker) → Sized m → (ls : List Leaf) (es : List Event) → Holds (StateLeft (total row_cost (rows_among es))) (image m ls es)
 image_left m sized ls [] = omega arith
 image_left m sized ls (Row r ∷ es) =
-    then (StateLeft (rows_cost (rows_among es))) (StateLeft (row_cost r + rows_cost (rows_among es))) (image m ls es) (event_part m (Row r)) (image_left m sized ls es)
-    (λ s is. then (PartsLeft (heft_parts s.1 + row_cost r)) (StateLeft (row_cost r + rows_cost (rows_among es))) (row_part m r s.1) (λ ps. Ok (s.0, ps)) (row_left m sized r s.1) (λ ps ip. omega (arith, is, ip)))
+    then (StateLeft (total row_cost (rows_among es))) (StateLeft (row_cost r + total row_cost (rows_among es))) (image m ls es) (event_part m (Row r)) (image_left m sized ls es)
+    (λ s is. then (PartsLeft (total heft_part s.1 + row_cost r)) (StateLeft (row_cost r + total row_cost (rows_among es))) (row_part m r s.1) (λ ps. Ok (s.0, ps)) (row_left m sized r s.1) (λ ps ip. omega (arith, is, ip)))
 image_left m sized ls (Took ∷ es) =
-    then (StateLeft (rows_cost (rows_among es))) (StateLeft (rows_cost (rows_among es))) (image m ls es) (event_part m Took) (image_left m sized ls es) (λ s is. leaf_left s.0 s.1 (rows_cost (rows_among es)) is)
+    then (StateLeft (total row_cost (rows_among es))) (StateLeft (total row_cost (rows_among es))) (image m ls es) (event_part m Took) (image_left m sized ls es) (λ s is. leaf_left s.0 s.1 (total row_cost (rows_among es)) is)
 image_left m sized ls (Inserted ∷ es) =
-    then (StateLeft (rows_cost (rows_among es))) (StateLeft (rows_cost (rows_among es))) (image m ls es) (event_part m Inserted) (image_left m sized ls es) (λ s is. omega (arith, is))
+    then (StateLeft (total row_cost (rows_among es))) (StateLeft (total row_cost (rows_among es))) (image m ls es) (event_part m Inserted) (image_left m sized ls es) (λ s is. omega (arith, is))
 
-root_left : (ps : List Part) → Holds (TreeOf (heft_parts ps)) (root ps)
+root_left : (ps : List Part) → Holds (TreeOf (total heft_part ps)) (root ps)
 root_left ps =
-    then (ValuesLeft (heft_parts ps)) (TreeOf (heft_parts ps)) (taken_values ps) (λ v. cond (length v.1 == 0) (one_node v.0.0) broken) (values_left ps)
-    (λ v iv. either (TreeOf (heft_parts ps)) (length v.1 == 0) (one_node v.0.0) broken (up_to (size_in v.0.0) (heft_parts ps) (one_node v.0.0) (omega (arith, iv)) (one_node_left v.0.0)) tt)
+    then (ValuesLeft (total heft_part ps)) (TreeOf (total heft_part ps)) (taken_values ps) (λ v. cond (length v.1 == 0) (one_node v.0.0) broken) (values_left ps)
+    (λ v iv. either (TreeOf (total heft_part ps)) (length v.1 == 0) (one_node v.0.0) broken (up_to (size_in v.0.0) (total heft_part ps) (one_node v.0.0) (omega (arith, iv)) (one_node_left v.0.0)) tt)
 
-tree_left : (m : Maker) → Sized m → (ls : List Leaf) (es : List Event) → Holds (TreeOf (rows_cost (rows_among es))) (tree_of m ls es)
+tree_left : (m : Maker) → Sized m → (ls : List Leaf) (es : List Event) → Holds (TreeOf (total row_cost (rows_among es))) (tree_of m ls es)
 unfolding tree_of
 tree_left m sized ls es =
-    then (StateLeft (rows_cost (rows_among es))) (TreeOf (rows_cost (rows_among es))) (image m (reverse ls) es) (λ s. root s.1) (image_left m sized (reverse ls) es)
-    (λ s is. up_to (heft_parts s.1) (rows_cost (rows_among es)) (root s.1) is (root_left s.1))
+    then (StateLeft (total row_cost (rows_among es))) (TreeOf (total row_cost (rows_among es))) (image m (reverse ls) es) (λ s. root s.1) (image_left m sized (reverse ls) es)
+    (λ s is. up_to (total heft_part s.1) (total row_cost (rows_among es)) (root s.1) is (root_left s.1))
 
 limited_sized : Sized limited
 limited_sized = record { made = λ k ds t made. ap size (sym (limited_made k ds t made).same) }
 
 -- a tree has no more values than its rows add
-pub tree_costs : (ls : List Leaf) (es : List Event) (t : Tree) → tree_of limited ls es ≡ Ok t → size t ≤ rows_cost (rows_among es)
-tree_costs ls es t made = held_in (TreeOf (rows_cost (rows_among es))) (tree_of limited ls es) t (tree_left limited limited_sized ls es) made
+pub tree_costs : (ls : List Leaf) (es : List Event) (t : Tree) → tree_of limited ls es ≡ Ok t → size t ≤ total row_cost (rows_among es)
+tree_costs ls es t made = held_in (TreeOf (total row_cost (rows_among es))) (tree_of limited ls es) t (tree_left limited limited_sized ls es) made

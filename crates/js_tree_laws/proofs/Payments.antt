@@ -21,7 +21,8 @@ use Rattle.js_tree.specs.Image.{tree_of}
 use Rattle.js_tree.specs.Nodes.{limited}
 use Rattle.js_tree.specs.declared.leaf.Leaf.{Leaf}
 use Rattle.js_tree_laws.proofs.Holding.{each_row}
-use Rattle.js_tree_laws.proofs.HeftFinishes.{row_cost, rows_cost, tree_costs}
+use Rattle.js_tree_laws.proofs.HeftFinishes.{row_cost, tree_costs}
+use Rattle.js_tree_laws.proofs.Hefts.{total, total_join}
 
 -- seven values for a token; what is derived from a symbol has at most this many values more than its tokens pay for
 abbrev credit : Symbol → ℕ
@@ -75,41 +76,25 @@ debt symbols.TplMore = 6
 debt (symbols.Take a) = 7
 debt _ = 0
 
-abbrev credits : List Symbol → ℕ
-credits [] = 0
-credits (s ∷ ss) = credit s + credits ss
-
-abbrev debts : List Symbol → ℕ
-debts [] = 0
-debts (s ∷ ss) = debt s + debts ss
-
 -- what a row adds is paid for
 abbrev pays : Symbol → RowId → Bool
-pays s r = nat_le (row_cost r + credits (row_symbols r) + debt s) (debts (row_symbols r) + credit s)
+pays s r = nat_le (row_cost r + total credit (row_symbols r) + debt s) (total debt (row_symbols r) + credit s)
 
 all_pay : (s : Symbol) → list_all (pays s) (alternatives s) ≡ true
 all_pay (symbols.Level levels.LogicalOr m) = refl
 all_pay (symbols.LevelTail levels.LogicalOr m) = refl
 all_pay _ = refl
 
-row_pays : (s : Symbol) (r : RowId) → Contains (alternatives s) r → row_cost r + credits (row_symbols r) + debt s ≤ debts (row_symbols r) + credit s
-row_pays s r c = leb-true (row_cost r + credits (row_symbols r) + debt s) (debts (row_symbols r) + credit s) (each_row (pays s) (alternatives s) r (all_pay s) c)
+row_pays : (s : Symbol) (r : RowId) → Contains (alternatives s) r → row_cost r + total credit (row_symbols r) + debt s ≤ total debt (row_symbols r) + credit s
+row_pays s r c = leb-true (row_cost r + total credit (row_symbols r) + debt s) (total debt (row_symbols r) + credit s) (each_row (pays s) (alternatives s) r (all_pay s) c)
 
-credits_join : (ss ts : List Symbol) → credits (ss ++ ts) ≡ credits ss + credits ts
-credits_join [] ts = omega arith
-credits_join (s ∷ ss) ts = omega (arith, credits_join ss ts)
-
-debts_join : (ss ts : List Symbol) → debts (ss ++ ts) ≡ debts ss + debts ts
-debts_join [] ts = omega arith
-debts_join (s ∷ ss) ts = omega (arith, debts_join ss ts)
-
-derivation_pays : (ss : List Symbol) (ls : List GrammarLeaf) (rs : List RowId) → Derives ss ls rs → rows_cost rs + debts ss ≤ 7 * length (tokens_among ls) + credits ss
+derivation_pays : (ss : List Symbol) (ls : List GrammarLeaf) (rs : List RowId) → Derives ss ls rs → total row_cost rs + total debt ss ≤ 7 * length (tokens_among ls) + total credit ss
 derivation_pays _ _ _ nothing = omega arith
 derivation_pays _ _ _ (takes t c newline ss ls rs is d) = omega (arith, derivation_pays ss ls rs d)
 derivation_pays _ _ _ (semicolon newline ss ls rs d) = omega (arith, derivation_pays ss ls rs d)
 derivation_pays _ _ _ (counts ss ls rs before d) = omega (arith, derivation_pays ss ls rs d)
 derivation_pays _ _ _ (expands s r ss ls rs c b d) =
-    omega (arith, derivation_pays (row_symbols r ++ ss) ls rs d, row_pays s r c, credits_join (row_symbols r) ss, debts_join (row_symbols r) ss)
+    omega (arith, derivation_pays (row_symbols r ++ ss) ls rs d, row_pays s r c, total_join credit (row_symbols r) ss, total_join debt (row_symbols r) ss)
 
 pub trees_are_small : (text : List ℕ) (ts : List Token) (ls : List Leaf) (es : List Event) (t : Tree) → Ends text ts (Accepted es) → tree_of limited ls es ≡ Ok t → size t < 7 * length ts
 trees_are_small text ts ls es t ends made =

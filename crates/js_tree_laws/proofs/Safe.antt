@@ -55,8 +55,7 @@ guarded m qs false o r f = tt
 safe_then : {A : Type 0} (P : A → Type 0) (m : Maker) (qs : List Part) (o : Checked) (r : Result A Fault) (f : A → Gathered) → Safely P r → ((x : A) → P x → Reached m qs o (f x)) → Reached m qs o (r >>= f)
 safe_then P m qs o (Ok x) f is next = next x is
 safe_then P m qs o (Err faults.TooDeep) f is next = too_deep m qs o
-safe_then P m qs o (Err faults.Broken) f is next = absurd is
-safe_then P m qs o (Err faults.Memory) f is next = absurd is
+safe_then P m qs o (Err _) f is next = absurd is
 
 told : {A : Type 0} (m : Maker) (qs : List Part) (o : Checked) (x : Option A) (a : A) (f : A → Gathered) → x ≡ Some a → Reached m qs o (f a) → Reached m qs o (there x >>= f)
 told m qs o x a f e is = subst (λ y. Reached m qs o (there y >>= f)) (sym e) is
@@ -185,14 +184,12 @@ wrap_sound_to m qs (Some t) a ss w ds ps e is rest_is = one_added m qs a (Of t) 
 pub safely_bind : {A B : Type 0} (P : A → Type 0) (Q : B → Type 0) (r : Result A Fault) (f : A → Result B Fault) → Safely P r → ((x : A) → P x → Safely Q (f x)) → Safely Q (r >>= f)
 safely_bind P Q (Ok x) f is next = next x is
 safely_bind P Q (Err faults.TooDeep) f is next = tt
-safely_bind P Q (Err faults.Broken) f is next = absurd is
-safely_bind P Q (Err faults.Memory) f is next = absurd is
+safely_bind P Q (Err _) f is next = absurd is
 
 pub safely_map : {A : Type 0} (P Q : A → Type 0) (r : Result A Fault) → ((x : A) → P x → Q x) → Safely P r → Safely Q r
 safely_map P Q (Ok x) f is = f x is
 safely_map P Q (Err faults.TooDeep) f is = tt
-safely_map P Q (Err faults.Broken) f is = is
-safely_map P Q (Err faults.Memory) f is = is
+safely_map P Q (Err _) f is = is
 
 pub widened : (v u : Union) (t : Tree) → within v u ≡ true → Is v t → Is u t
 widened v u t w is = suits_sound (Of (field.Node v)) (field.Node u) (child t) w is
@@ -353,8 +350,7 @@ reached_then : (m : Maker) (qs : List Part) (o : Checked) (r : Gathered) (f : Sh
 reached_then m qs None r f g is next = tt
 reached_then m qs (Some x) (Ok y) f g is next = next x y is.0 is.1
 reached_then m qs (Some x) (Err faults.TooDeep) f g is next = too_deep m qs (f x)
-reached_then m qs (Some x) (Err faults.Broken) f g is next = absurd is
-reached_then m qs (Some x) (Err faults.Memory) f g is next = absurd is
+reached_then m qs (Some x) (Err _) f g is next = absurd is
 
 -- what is gathered by steps
 pub gathered_sound : (m : Maker) (qs : List Part) → IsMaker m → (l : List Step) (a : Shape) (ss : List PartSort) (w : Work) (ps : List Part) → WorkIs m a w → PartsAre m ss ps qs → Reached m qs (gathers l a ss) (gathered m l w ps)

@@ -42,11 +42,8 @@ row_of_script : (s : Symbol) (r : RowId) → symbols.Script ≡ s → Contains (
 row_of_script s r same c = one_row rows.Script r (subst (λ s. Contains (alternatives s) r) (sym same) c)
 
 first_row : (ss : List Symbol) (ls : List GrammarLeaf) (rs : List RowId) (r : RowId) (qs : List RowId) → Derives ss ls rs → ss ≡ symbols.Script ∷ [] → rs ≡ r ∷ qs → rows.Script ≡ r
-first_row _ _ _ r qs nothing e f = absurd cc
-first_row _ _ _ r qs (takes t c newline ss ls rs is d) e f = absurd cc
-first_row _ _ _ r qs (semicolon newline ss ls rs d) e f = absurd cc
-first_row _ _ _ r qs (counts ss ls rs before d) e f = absurd cc
 first_row _ _ _ r qs (expands s q ss ls rs c b d) e f = let same : symbols.Script ≡ s = cc in let row : q ≡ r = cc in row_of_script s q same c ∙ row
+first_row _ _ _ r qs _ e f = absurd cc
 
 -- one node of a kind
 abbrev IsOne : Kind → Data → Type 0

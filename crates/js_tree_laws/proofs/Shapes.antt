@@ -34,9 +34,7 @@ either false b e = inr e
 
 pub three : (a b c : Bool) → (a && b && c) ≡ true → (a ≡ true) × (b ≡ true) × (c ≡ true)
 three true true true e = (refl, refl, refl)
-three true true false e = cc
-three true false c e = cc
-three false b c e = cc
+three _ _ _ e = cc
 
 abbrev has_number : Union → ℕ → Bool
 has_number u n = list_any (λ i. eqb (number i) n) (kinds_in u)
@@ -191,7 +189,7 @@ shape_sound (s ∷ ss) q (t ∷ ts) r none w is = absurd is
 shape_sound (s ∷ ss) q (t ∷ ts) r (more d ds) w is = (suits_sound s t d (and_left _ _ w) is.0, shape_sound ss q ts r ds (and_right (suits s t) _ w) is.1)
 
 -- the list of such values
-node_items : (u : Union) (ds : Data) → RestIs (Many (field.Node u)) ds → items_fit u false ds ≡ true
+pub node_items : (u : Union) (ds : Data) → RestIs (Many (field.Node u)) ds → items_fit u false ds ≡ true
 node_items u none is = refl
 node_items u (more d ds) is = both _ _ is.0 (node_items u ds is.1)
 

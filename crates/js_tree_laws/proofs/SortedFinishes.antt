@@ -120,9 +120,7 @@ shorthand_safe m maker ds fitting =
 
 text_fits : (ds : Data) → fit (field.Name ∷ []) ds ≡ true → fit (field.Text ∷ []) ds ≡ true
 text_fits (more (name n) none) e = refl
-text_fits (more (name n) (more d ds)) e = cc
-text_fits (more _ ds) e = cc
-text_fits none e = cc
+text_fits _ e = cc
 
 property_as : (m : Maker) → IsMaker m → (b : Bool) (v : Union) (ds : Data) (es : List Ending) (ps qs : List Part) → (length es == 0) ≡ b → within unions.ObjectProperty v ≡ true → fit (field.Name ∷ []) ds ≡ true → AreEndings m Names es → ps ≡ qs
     → Makes m (Values (field.Node v ∷ []) Nothing) qs (cond b (with_made (shorthand m ds) ps) (m kinds.LiteralPropertyName ds >>= λ t. with_made (folded m es t) ps))

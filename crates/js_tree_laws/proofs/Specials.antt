@@ -233,8 +233,7 @@ named_out m maker l ps k e =
         → Safely (NamedOut ps) (((made >>= λ t. with_value (child t) no_work ps) >>= λ r. gathered m [] r.0 r.1) >>= λ g. finish_on m finishes.Values g.0 g.1)
     made_out (Ok t) is = (k.0, t, refl, is)
     made_out (Err faults.TooDeep) is = tt
-    made_out (Err faults.Broken) is = is
-    made_out (Err faults.Memory) is = is
+    made_out (Err _) is = is
 
 named_suits : (m : Maker) (k n : ℕ) (t : Tree) → t ≡ branch kinds.IdentifierExpression (one (name k)) → OperandIs m (NameAt n) (parts.Values (one (child t)) None)
 named_suits m k n t e = subst (λ t. OperandIs m (NameAt n) (parts.Values (one (child t)) None)) (sym e) ((refl, tt), (k, refl))

@@ -11,6 +11,7 @@ use Rattle.bast_schema.specs.Counts.{is_whole, is_whole_at, is_whole_in}
 use Rattle.bast_schema.specs.Fields.{fields, has_lazy}
 use Rattle.bast_schema.specs.Kinds.{same_kind}
 use Rattle.bast_schema.specs.Made.{node_or}
+use Rattle.bast_schema.proofs.Both.{and_first, both}
 use Rattle.bast_schema.specs.Tree.{Tree, branch, Datum, child, listed, flag, name, Data, none, more, first_wrong, depth, depth_at, depth_in}
 use Rattle.js_machine.specs.declared.events.Event.{Event}
 use Rattle.bast_schema.specs.Eager.{is_eager, is_eager_at, are_eager}
@@ -71,24 +72,16 @@ pub no_names_in : (P : Datum → Type 0) → ((n : ℕ) → P (name n)) → (ls 
 no_names_in P any [] = tt
 no_names_in P any (l ∷ ls) = ((any_name P any l.text, any_name P any l.raw), no_names_in P any ls)
 
-both_true : (a b : Bool) → a ≡ true → b ≡ true → (a && b) ≡ true
-both_true true b e f = f
-both_true false b e f = absurd cc
-
 neither : (a b : Bool) → not (a || b) ≡ true → (a ≡ false) × (b ≡ false)
 neither true b e = absurd cc
 neither false true e = absurd cc
 neither false false e = (refl, refl)
 
-first_true : (a b : Bool) → (a && b) ≡ true → a ≡ true
-first_true true b e = refl
-first_true false b e = e
-
-no_name_here : {A : Type 0} (n : ℕ) → None ≡ Some n → A
+pub no_name_here : {A : Type 0} (n : ℕ) → None ≡ Some n → A
 no_name_here n e = cc
 
 name_first : (p : ℕ → Bool) (ds : Data) (n : ℕ) → names_hold_in p ds ≡ true → first_name ds ≡ Some n → p n ≡ true
-name_first p (more (name i) ds) n h e = let same : i ≡ n = cc in subst (λ n. p n ≡ true) same (first_true (p i) (names_hold_in p ds) h)
+name_first p (more (name i) ds) n h e = let same : i ≡ n = cc in subst (λ n. p n ≡ true) same (and_first (p i) (names_hold_in p ds) h)
 name_first p _ n h e = no_name_here n e
 
 name_in : (p : ℕ → Bool) (b : Bool) (ds : Data) (n : ℕ) → names_hold_in p ds ≡ true → cond b (first_name ds) None ≡ Some n → p n ≡ true
@@ -126,9 +119,9 @@ all_good p none h = record { whole = refl; eager = refl; named = refl; shallow =
 all_good p (more d ds) h =
     let r = all_good p ds h.1 in let one : Good p d = h.0 in let a : depth_at d ≤ 512 = one.shallow in let b : depth_in ds ≤ 512 = r.shallow
     in record {
-      whole = both_true (is_whole_at d) (is_whole_in ds) one.whole r.whole;
-      eager = both_true (is_eager_at d) (are_eager ds) one.eager r.eager;
-      named = both_true (names_hold_at p d) (names_hold_in p ds) one.named r.named;
+      whole = both (is_whole_at d) (is_whole_in ds) one.whole r.whole;
+      eager = both (is_eager_at d) (are_eager ds) one.eager r.eager;
+      named = both (names_hold_at p d) (names_hold_in p ds) one.named r.named;
       shallow = omega (arith, a, b);
       plain = ap (λ e. more e (bare_in ds)) (one_plain d (is_scope d) refl (one.plain, one.scope)) ∙ ap (more d) r.plain;
     }
@@ -139,7 +132,7 @@ node_good p k ds t is scope h made =
     let r = limited_made k ds t made in let a = all_good p ds h
     in subst (λ t. Good p (child t)) r.same (record {
       whole = a.whole;
-      eager = both_true (not (has_lazy k)) (are_eager ds) (ap not is) a.eager;
+      eager = both (not (has_lazy k)) (are_eager ds) (ap not is) a.eager;
       named = a.named;
       shallow = r.shallow;
       plain = ap (λ k. child (branch k (bare_in ds))) (eager_is k (ap not is)) ∙ ap (λ ds. child (branch k ds)) a.plain;
@@ -160,7 +153,7 @@ flag_good p b = record { whole = refl; eager = refl; named = refl; shallow = ome
 
 good_kept : (p : ℕ → Bool) → Kept limited (Good p)
 good_kept p = record {
-  node = λ k ds t is h made. common_good p k ds t (first_true (is_common k) (not (same_kind k kinds.IdentifierExpression)) is) h made;
+  node = λ k ds t is h made. common_good p k ds t (and_first (is_common k) (not (same_kind k kinds.IdentifierExpression)) is) h made;
   scope = λ k t is made. node_good p k (empty_fields (shape_of k)) t is (λ s. refl) (empty_held (Good p) (list_good p none tt) (flag_good p false) (shape_of k)) made;
   named = λ k n t is h made. common_good p k (one (name n)) t is (h, tt) made;
   shorthand = λ ds t u h made again. common_good p kinds.ShorthandProperty (one (child t)) u refl (common_good p kinds.IdentifierExpression ds t refl h made, tt) again;

@@ -1,7 +1,7 @@
 use Rattle.js_tree_laws.proofs.Payments.{trees_are_small}
 use Rattle.js_tree_laws.proofs.Scripts.{trees_are_scripts}
 use Rattle.js_tree_laws.proofs.TreesHold.{trees_are_whole, trees_are_eager, trees_are_plain, trees_have_names, trees_are_shallow}
-use Rattle.js_tree.proofs.tree_laws.trees_hold.Goals as goal
+use Rattle.js_tree_laws.proofs.tree_laws.trees_hold.Goals as goal
 
 pub returns-clause-whole : goal.returns-clause-whole
 returns-clause-whole c = trees_are_whole
