@@ -11,7 +11,7 @@ from picture import Picture
 
 TOP = Path(__file__).resolve().parent.parent
 COLOURS = ["#e8f1fa", "#e3f4ea", "#fdf3dc", "#fbe7e4", "#efe6f7", "#e2f3f4", "#f4ead9", "#e6e9ee"]
-WIDTH, ROW, BOX_WIDTH, BOX_HEIGHT, GAP = 1000, 84, 146, 34, 26
+WIDTH, ROW, BOX_WIDTH, BOX_HEIGHT, GAP = 1120, 84, 146, 34, 24
 
 
 def read_crates():
